@@ -1,0 +1,5 @@
+pub mod Band
+pub mod Power
+pub mod Answer
+pub mod Exact
+pub mod Private

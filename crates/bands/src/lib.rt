@@ -1,0 +1,154 @@
+// FFT bins and bands (01, "Bands"): the band of a bin, the bins of a band, its description in hertz, and the cadence of reports.
+ghost use mathlib.Core.Path.{_≡_};
+ghost use Prim.Native.Nat.{_<_, _≤_, _-_};
+ghost use Rattle.bands.specs.Band.{bandOf};
+ghost use Rattle.bands.specs.Private.{coarser};
+ghost use Rattle.bands.specs.Answer.{bandIndexOutcome, bandFound, bandBinsOutcome, bandBins, bandDescriptionOutcome, bandDescribed, cadenceOutcome, cadenceOf};
+ghost use Rattle.bands.specs.Exact.{ExactDescription, ExactCadence};
+use refusal::Refusal;
+use table::FINE_BANDS;
+
+mod table;
+
+// The number of bands of the bin settings 0, 1 and 2.
+pub const COUNTS: [u8; 3] = [36, 64, 112];
+
+// The band of an FFT bin, or refusal 12.
+pub enum BandIndex {
+    Band(u8),
+    Refused(Refusal),
+}
+
+// The bins of a band: so many from start on.
+pub struct BinRange {
+    pub start: u16,
+    pub width: u16,
+}
+
+// The bins of a band, or refusal 12.
+pub enum BandBins {
+    Bins(BinRange),
+    Refused(Refusal),
+}
+
+// A band in hertz.
+pub struct Description {
+    pub low: f32,
+    pub centre: f32,
+    pub width: f32,
+}
+
+// The description of a band, or refusal 12.
+pub enum BandDescription {
+    Described(Description),
+    Refused(Refusal),
+}
+
+// How often reports come: a rate per second, a period in seconds, or refusal 12.
+pub enum Cadence {
+    Rate(f32),
+    Period(f32),
+    Refused(Refusal),
+}
+
+// The band at 112 bands.
+fn fine_band(bin: u16) -> u8
+    requires { ⌜ bin < 1024 ⌝ }
+    ensures { λ r. ⌜ r ≡ bandOf 4 bin ⌝ }
+{
+    let i = bin as usize;
+    FINE_BANDS[i]
+}
+
+// The band that holds a given one where there are half as many to the octave.
+fn coarser_band(band: u8, size: u8) -> u8
+    requires { ⌜ size ≤ 8 ⌝ }
+    ensures { λ r. ⌜ r ≡ coarser size band ⌝ }
+{
+    if band < 2 * size {
+        band
+    } else {
+        band / 2 + size
+    }
+}
+
+// The band of an FFT bin at a bin setting; refusal 12 for a setting over 2 or a bin over 1023.
+pub fn band_of(setting: u8, bin: u16) -> BandIndex
+    ensures { λ r. ⌜ bandIndexOutcome r ≡ bandFound setting bin ⌝ }
+{
+    if 2 < setting {
+        return BandIndex::Refused(Refusal::OutOfRange);
+    }
+    if 1023 < bin {
+        return BandIndex::Refused(Refusal::OutOfRange);
+    }
+    let fine = fine_band(bin);
+    if setting == 2 {
+        return BandIndex::Band(fine);
+    }
+    let middle = coarser_band(fine, 8);
+    if setting == 1 {
+        return BandIndex::Band(middle);
+    }
+    BandIndex::Band(coarser_band(middle, 4))
+}
+
+// The exponent of the width of a band, from the number of its octave.
+fn width_exponent(octave: u8) -> u8
+    ensures { λ r. ⌜ r ≡ octave - 1 ⌝ }
+{
+    if octave == 0 { 0 } else { octave - 1 }
+}
+
+// The bins of a band; refusal 12 for a setting over 2 or a band past the count.
+pub fn bins_of_band(setting: u8, band: u8) -> BandBins
+    ensures { λ r. ⌜ bandBinsOutcome r ≡ bandBins setting band ⌝ }
+{
+    if 2 < setting {
+        return BandBins::Refused(Refusal::OutOfRange);
+    }
+    let i = setting as usize;
+    if COUNTS[i] <= band {
+        return BandBins::Refused(Refusal::OutOfRange);
+    }
+    let s = setting + 2;
+    let e = width_exponent(band >> s);
+    let m = band - (e << s);
+    BandBins::Bins(BinRange {
+        start: (m as u16) << e,
+        width: 1u16 << e,
+    })
+}
+
+// The low edge, centre and width of a band in hertz, a bin spanning 8 Hz; refusal 12 for a setting over 2 or a band past the count.
+pub fn describe_band(setting: u8, band: u8) -> BandDescription
+    ensures { λ r. ⌜ (bandDescriptionOutcome r ≡ bandDescribed setting band) × ExactDescription setting band r ⌝ }
+{
+    let found = bins_of_band(setting, band);
+    let BandBins::Bins(bins) = found else {
+        return BandDescription::Refused(Refusal::OutOfRange);
+    };
+    let low = 8 * bins.start;
+    let width = 8 * bins.width;
+    let centre = low + width / 2;
+    BandDescription::Described(Description {
+        low: low as f32,
+        centre: centre as f32,
+        width: width as f32,
+    })
+}
+
+// How often reports come at an NCAD choice: 8 / C a second or every C / 8 seconds, C being 2 to that power; refusal 12 for a choice over 10.
+pub fn cadence_of(choice: u8) -> Cadence
+    ensures { λ r. ⌜ (cadenceOutcome r ≡ cadenceOf choice) × ExactCadence choice r ⌝ }
+{
+    if 10 < choice {
+        return Cadence::Refused(Refusal::OutOfRange);
+    }
+    let ticks = 1u16 << choice;
+    if ticks <= 8 {
+        Cadence::Rate(8.0 / (ticks as f32))
+    } else {
+        Cadence::Period((ticks as f32) / 8.0)
+    }
+}

@@ -1,0 +1,2 @@
+pub mod LeastExponent
+pub mod Laws

@@ -1,0 +1,5 @@
+pub mod Choices
+pub mod Sums
+pub mod Tables
+pub mod Overwriting
+pub mod Runs

@@ -1,0 +1,96 @@
+-- Over every list of append calls, refused ones among them: a log begun empty reads back, over its bytes used, as the records that were
+-- accepted, in order, and then the end.
+use Prim.Native.Nat.{ℕ, _+_, _≤_}
+use mathlib.Core.Path.{_≡_, refl, ap, sym, subst, _∙_}
+use mathlib.Core.List.{List, [], _∷_, _++_, append-assoc, append-nil}
+use native.Mathlib.Omega.{arith}
+use borrow.Author.Tests.{leb-true}
+use lib.Dec.{leb}
+use lib.ListN.{length, take, drop, length-append}
+use lib.Seq.{length-take-le, take-at}
+use Rattle.lists.proofs.Choices.{cond-at}
+use Rattle.refusal.specs.Outcome.{Outcome, given, refused, Filled}
+use Rattle.log.specs.Format.{recordLength, encode, checked}
+use Rattle.log.specs.Append.{usedWith, appendChecked, appendOutcome}
+use Rattle.log.specs.History.{Log, begun, usedBytes, usedAfter, acceptedBy, afterCall, afterCalls, accepted, ReadsAs, end, next}
+use Rattle.log.specs.declared.Record.{Record}
+use Rattle.log.proofs.Encoding.{encode-long, check-gives, read-encoded, read-end}
+
+-- the bytes of a list of records
+encodeAll : List Record → List ℕ
+encodeAll [] = []
+encodeAll (r ∷ rs) = encode r ++ encodeAll rs
+
+abbrev AllKnown : List Record → Type 0
+AllKnown [] = Unit {0}
+AllKnown (r ∷ rs) = (checked r ≡ given r) × AllKnown rs
+
+-- the bytes used of the log are those of the records, which are known
+record Holds (l : Log) (rs : List Record) : Type 0 where
+  bytes : take (l .used) (l .buffer) ≡ encodeAll rs
+  within : l .used ≤ length (l .buffer)
+  known : AllKnown rs
+
+encode-snoc : (rs : List Record) (r : Record) → encodeAll (rs ++ (r ∷ [])) ≡ encodeAll rs ++ encode r
+unfolding encodeAll
+encode-snoc [] r = append-nil (encode r)
+encode-snoc (q ∷ rs) r = ap (λ (l : List ℕ). encode q ++ l) (encode-snoc rs r) ∙ sym (append-assoc (encode q) (encodeAll rs) (encode r))
+
+known-snoc : (rs : List Record) (r : Record) → AllKnown rs → checked r ≡ given r → AllKnown (rs ++ (r ∷ []))
+known-snoc [] r k h = (h, tt)
+known-snoc (q ∷ rs) r k h = (k .0, known-snoc rs r (k .1) h)
+
+-- one call: what held, holds with the record added where it was accepted
+one-call : (l : Log) (rs : List Record) (r : Record) → Holds l rs → Holds (afterCall l r) (rs ++ acceptedBy (appendOutcome (l .buffer) (l .used) r .answer) r)
+unfolding appendOutcome
+one-call l rs r h = by-check (checked r) refl
+  where
+    same : Holds l (rs ++ [])
+    same = rw append-nil h
+
+    -- what a call leaves
+    left : Filled ℕ → Type 0
+    left o = Holds (record { buffer = o .buffer; used = usedAfter (o .answer) (l .used) }) (rs ++ acceptedBy (o .answer) r)
+
+    written : checked r ≡ given r → left (appendChecked (l .buffer) (l .used) (given r))
+    written k =
+        cond-at left (leb (usedWith (l .used) r) (length (l .buffer))) (λ f.
+        let fits : usedWith (l .used) r ≤ length (l .buffer) = leb-true _ _ f in
+        let front : length (take (l .used) (l .buffer) ++ encode r) ≡ usedWith (l .used) r = simp (length-append, length-take-le (l .used) (l .buffer) (h .within), encode-long r) in
+        record {
+          bytes = take-at (take (l .used) (l .buffer) ++ encode r) (drop (usedWith (l .used) r) (l .buffer)) (usedWith (l .used) r) front
+              ∙ ap (λ (b : List ℕ). b ++ encode r) (h .bytes) ∙ sym (encode-snoc rs r);
+          within = simp length-append (omega (arith, simp length-append at front));
+          known = known-snoc rs r (h .known) k;
+        })
+        (λ f. same)
+
+    by-check : (q : Outcome Record) → checked r ≡ q → left (appendChecked (l .buffer) (l .used) q)
+    by-check (given d) e = subst (λ (x : Record). left (appendChecked (l .buffer) (l .used) (given x))) (check-gives r d e) (written (e ∙ ap given (sym (check-gives r d e))))
+    by-check (refused n) e = same
+
+-- a list of calls
+all-calls : (calls : List Record) (l : Log) (rs : List Record) → Holds l rs → Holds (afterCalls l calls) (rs ++ accepted l calls)
+unfolding afterCalls accepted
+all-calls [] l rs h = rw append-nil h
+all-calls (r ∷ calls) l rs h =
+    let one = acceptedBy (appendOutcome (l .buffer) (l .used) r .answer) r in
+    rw (← append-assoc rs one (accepted (afterCall l r) calls)) (all-calls calls (afterCall l r) (rs ++ one) (one-call l rs r h))
+
+-- encoded records read back
+reads : (pre : List ℕ) (rs : List Record) → AllKnown rs → ReadsAs (pre ++ encodeAll rs) (length pre) rs
+unfolding encodeAll
+reads pre [] k = rw append-nil (end (read-end pre))
+reads pre (r ∷ rs) k =
+    let at : length (pre ++ encode r) ≡ length pre + recordLength r = length-append pre (encode r) ∙ ap (λ (n : ℕ). length pre + n) (encode-long r) in
+    let rest : ReadsAs (pre ++ (encode r ++ encodeAll rs)) (length pre + recordLength r) rs =
+    rw (← at, ← append-assoc) (reads (pre ++ encode r) rs (k .1)) in
+    next (read-encoded pre (encodeAll rs) r (k .0)) rest
+
+-- a log begun empty and written by append alone reads back, over its bytes used, as the records accepted and then the end
+pub round-trip : (buffer : List ℕ) (calls : List Record) → ReadsAs (usedBytes (afterCalls (begun buffer) calls)) 0 (accepted (begun buffer) calls)
+unfolding encodeAll
+round-trip buffer calls =
+    let h : Holds (afterCalls (begun buffer) calls) (accepted (begun buffer) calls) =
+    all-calls calls (begun buffer) [] (record { bytes = refl; within = omega arith; known = tt }) in
+    rw (h .bytes) (reads [] (accepted (begun buffer) calls) (h .known))

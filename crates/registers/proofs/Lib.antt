@@ -1,0 +1,4 @@
+pub mod Laws
+pub mod Stored
+pub mod Settings
+pub mod Theorems

@@ -1,0 +1,26 @@
+-- `registers::Registers::running` meets its contract. Assumes nothing.
+use borrow.Author.Tests.{lt-ltb}
+use native.Mathlib.Omega.{arith}
+use Prim.Native.Nat.{_<_}
+use mathlib.Core.Path.{_≡_, sym, _∙_}
+use Rattle.registers.specs.Settings.{enabledCount, runningOf}
+use borrow.Author.Needs.{needs}
+use Rattle.registers.proofs.Registers.running.Statement.{statement}
+use Rattle.registers.proofs.Registers.running.Tie as tie
+
+returns : tie.Need-returns
+unfolding runningOf
+returns c =
+    let none : enabledCount (c .before .before .args .self) ≡ 0 = omega (arith, c .before .enabled-count .ensures) in
+    rw none
+
+returns-2 : tie.Need-returns-2
+unfolding runningOf
+returns-2 c =
+    let a = c .before .before .before .before .args .self in
+    let some : 0 < enabledCount a = omega arith in
+    rw (lt-ltb 0 (enabledCount a) some, c .before .averaged-spectra .ensures, c .period-ticks .ensures)
+
+pub running-spec : {M : Type 1} → statement M
+running-spec =
+    tie.close (tie.spec (λ c κs. search needs) returns (λ c κs. search needs) (λ c κs. search needs) returns-2)
