@@ -1,0 +1,232 @@
+// The board: commands, reads and ticks (01, "Periods"). The state goes in and comes back; the totals, the powers and the output are the caller's.
+// Crate `model` has the types and the rules.
+mod adding;
+mod within;
+mod writing;
+
+ghost use mathlib.Core.Path.{_≡_};
+ghost use mathlib.Core.Bool.{true, cond};
+ghost use Prim.Native.Nat.{_+_, _-_, _<_, _≤_};
+ghost use lib.Dec.{eqb};
+ghost use lib.ListN.{length};
+ghost use Rattle.registers.specs.Store.{stored};
+ghost use Rattle.registers.specs.Access.{isId, registersSound, storedTo, answerOutcome, registerRead};
+ghost use Rattle.registers.specs.Settings.{averagedSpectra, periodTicks, runningOf};
+ghost use Rattle.model.specs.Totals.{added};
+ghost use Rattle.model.specs.Board.{phaseSound, spectraHeld, totalsWithin, stateSound, commandReply, commandOutcome, tickReply, atNextPhase, lengthsFit, reportOutcome, runningOutcome, tickOutcome};
+ghost use Rattle.board.specs.Rows.{Ticking};
+use crate::adding::add_spectrum;
+use crate::adding::clear;
+use crate::within::totals_within;
+use crate::writing::write_report;
+use model::Commanded;
+use model::State;
+use model::TickAnswer;
+use model::Ticked;
+use refusal::Refusal;
+use registers::Answer;
+use registers::Registers;
+
+// The phase is below C when running, and otherwise 0.
+fn is_phase_sound(registers: Registers, running: bool, phase: u16) -> bool
+    requires { ⌜ running ≡ runningOf registers ⌝ }
+    ensures { λ r. ⌜ r ≡ phaseSound registers phase ⌝ }
+{
+    if running {
+        phase < registers.period_ticks()
+    } else {
+        phase == 0
+    }
+}
+
+// How many spectra the totals hold.
+fn spectra_held(registers: Registers, running: bool, phase: u16) -> u16
+    requires { ⌜ running ≡ runningOf registers ⌝ }
+    ensures { λ r. ⌜ (r ≡ spectraHeld registers phase) × (r ≤ 1024) ⌝ }
+{
+    if !running {
+        return 0;
+    }
+    if phase < registers.averaged_spectra() {
+        phase
+    } else {
+        0
+    }
+}
+
+fn is_sound(state: State, running: bool, totals: &[u64]) -> bool
+    requires { ⌜ running ≡ runningOf (state .registers) ⌝ }
+    requires { ⌜ length (now totals) ≡ 784 ⌝ }
+    ensures { λ r. ⌜ r ≡ stateSound state (now (totals .entry)) ⌝ }
+{
+    let registers = state.registers;
+    let phase = state.phase;
+    if !registers.is_sound() {
+        return false;
+    }
+    if !is_phase_sound(registers, running, phase) {
+        return false;
+    }
+    totals_within(
+        registers,
+        totals,
+        spectra_held(registers, running, phase) as u64,
+    )
+}
+
+// The stored value of a register. Refused by 3, for the registers only, then 1.
+pub fn read(state: State, id: u8) -> Answer
+    ensures { λ r. ⌜ answerOutcome r ≡ registerRead (state .registers) id ⌝ }
+{
+    let registers = state.registers;
+    registers.read(id)
+}
+
+fn refused_command(state: State, refusal: Refusal) -> Commanded
+    ensures { λ r. ⌜ r ≡ record { answer = Answer.Refused refusal; state = state } ⌝ }
+{
+    Commanded {
+        answer: Answer::Refused(refusal),
+        state,
+    }
+}
+
+// The value stored, and the state with it at phase 0.
+fn accepted_command(state: State, id: u8, information: u16) -> Commanded
+    requires { ⌜ (registersSound (state .registers) ≡ true) × (isId id ≡ true) ⌝ }
+    ensures { λ r. ⌜ r ≡ record { answer = Answer.Value (stored id information); state = record { registers = storedTo (state .registers) id information; phase = 0 } } ⌝ }
+{
+    let present = state.registers;
+    let write = present.write(id, information);
+    let answer = write.answer;
+    let registers = write.registers;
+    Commanded {
+        answer,
+        state: State {
+            registers,
+            phase: 0,
+        },
+    }
+}
+
+// A command: an ID and 16 bits of information. Refused by 2, 3, then 1.
+pub fn command(state: State, totals: &mut [u64], id: u8, information: u16) -> Commanded
+    ensures { λ r. ⌜ record { answer = commandReply (r .answer); state = r .state; totals = now (totals .exit) } ≡ commandOutcome state (now (totals .entry)) id information ⌝ }
+{
+    if totals.len() != State::TOTALS {
+        return refused_command(state, Refusal::WrongLength);
+    }
+    let registers = state.registers;
+    if !is_sound(state, registers.running(), totals) {
+        return refused_command(state, Refusal::UnsoundState);
+    }
+    if !registers::is_id(id) {
+        return refused_command(state, Refusal::UnknownCommand);
+    }
+    clear(totals);
+    accepted_command(state, id, information)
+}
+
+// The phase after p: 0 after C - 1.
+fn next_phase(phase: u16, period: u16) -> u16
+    requires { ⌜ phase < period ⌝ }
+    requires { ⌜ period ≤ 1024 ⌝ }
+    ensures { λ r. ⌜ r ≡ cond (eqb phase (period - 1)) 0 (phase + 1) ⌝ }
+{
+    if phase == period - 1 { 0 } else { phase + 1 }
+}
+
+// Refusal 13 does not come: no total is over N W (2^32 - 1), the most that N spectra give.
+fn means_fit(registers: Registers, totals: &[u64]) -> bool
+    requires { ⌜ length (now totals) ≡ 784 ⌝ }
+    ensures { λ r. ⌜ r ≡ totalsWithin registers (averagedSpectra registers) (now (totals .entry)) ⌝ }
+{
+    totals_within(registers, totals, registers.averaged_spectra() as u64)
+}
+
+// A tick at phase N - 1, with the state after it. Refused by 13, which no sound state comes to: the totals have the powers added by then.
+fn report(state: State, next: State, totals: &mut [u64], powers: &[u32], out: &mut [u8]) -> Ticked
+    requires { ⌜ Ticking state (now totals) (now powers) (now out) ⌝ }
+    requires { ⌜ state .phase ≡ averagedSpectra (state .registers) - 1 ⌝ }
+    requires { ⌜ next ≡ atNextPhase state ⌝ }
+    ensures { λ r. ⌜ record { answer = tickReply (r .answer); state = r .state; totals = now (totals .exit); out = now (out .exit) } ≡ reportOutcome state (now (totals .entry)) (added (state .registers) (now (totals .entry)) (now (powers .entry))) (now (out .entry)) ⌝ }
+{
+    let registers = state.registers;
+    add_spectrum(registers, totals, powers);
+    if !means_fit(registers, totals) {
+        return refused_tick(state, Refusal::MeanOverflow);
+    }
+    let words = write_report(registers, totals, out);
+    clear(totals);
+    Ticked {
+        answer: TickAnswer::Reported(words as u16),
+        state: next,
+    }
+}
+
+// A tick of a running board.
+fn running_tick(state: State, totals: &mut [u64], powers: &[u32], out: &mut [u8]) -> Ticked
+    requires { ⌜ Ticking state (now totals) (now powers) (now out) ⌝ }
+    ensures { λ r. ⌜ record { answer = tickReply (r .answer); state = r .state; totals = now (totals .exit); out = now (out .exit) } ≡ runningOutcome state (now (totals .entry)) (added (state .registers) (now (totals .entry)) (now (powers .entry))) (now (out .entry)) ⌝ }
+{
+    let registers = state.registers;
+    let phase = state.phase;
+    let period = registers.period_ticks();
+    let spectra = registers.averaged_spectra();
+    let last = spectra - 1;
+    let next = State {
+        registers,
+        phase: next_phase(phase, period),
+    };
+    if phase < last {
+        add_spectrum(registers, totals, powers);
+        return Ticked {
+            answer: TickAnswer::Collected,
+            state: next,
+        };
+    }
+    if phase == last {
+        return report(state, next, totals, powers, out);
+    }
+    Ticked {
+        answer: TickAnswer::Waiting,
+        state: next,
+    }
+}
+
+fn refused_tick(state: State, refusal: Refusal) -> Ticked
+    ensures { λ r. ⌜ r ≡ record { answer = TickAnswer.Refused refusal; state = state } ⌝ }
+{
+    Ticked {
+        answer: TickAnswer::Refused(refusal),
+        state,
+    }
+}
+
+// The lengths of powers, totals and output that refusal 2 asks.
+fn are_lengths(powers: usize, totals: usize, out: usize) -> bool
+    ensures { λ r. ⌜ r ≡ lengthsFit powers totals out ⌝ }
+{
+    (powers == State::POWERS) & (totals == State::TOTALS) & (State::OUTPUT <= out)
+}
+
+// A tick with 7 rows of 1,024 powers. Refused by 2, 3, then 13.
+pub fn tick(state: State, totals: &mut [u64], powers: &[u32], out: &mut [u8]) -> Ticked
+    ensures { λ r. ⌜ record { answer = tickReply (r .answer); state = r .state; totals = now (totals .exit); out = now (out .exit) } ≡ tickOutcome state (now (totals .entry)) (now (powers .entry)) (now (out .entry)) ⌝ }
+{
+    if !are_lengths(powers.len(), totals.len(), out.len()) {
+        return refused_tick(state, Refusal::WrongLength);
+    }
+    let registers = state.registers;
+    let is_running = registers.running();
+    if !is_sound(state, is_running, totals) {
+        return refused_tick(state, Refusal::UnsoundState);
+    }
+    if !is_running {
+        return Ticked {
+            answer: TickAnswer::Idle,
+            state,
+        };
+    }
+    running_tick(state, totals, powers, out)
+}

@@ -1,0 +1,10 @@
+pub mod Phases
+pub mod SpectraTotals
+pub mod Sound
+pub mod Reports
+pub mod Invariant
+pub mod Keeps
+pub mod Simulation
+pub mod Demand3
+pub mod Ticks
+pub mod Witness

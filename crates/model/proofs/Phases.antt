@@ -1,0 +1,81 @@
+-- The phase of a period, and how many spectra the totals hold at it. Assumes nothing.
+use Prim.Native.Nat.{ℕ, _+_, _-_, _≤_, _<_}
+use mathlib.Core.Path.{_≡_, refl, sym, ap, _∙_, subst}
+use mathlib.Core.Bool.{true, false, cond, _&&_}
+use native.Mathlib.Omega.{arith}
+use lib.Dec.{ltb, eqb, lit≤}
+use borrow.Author.Tests.{ltb-true, ltb-false, eqb-true, eqb-false, lt-ltb, le-ltb, ne-eqb}
+use Rattle.lists.proofs.Choices.{both, cond-at, cond-same, cond-true, cond-false}
+use Rattle.registers.specs.Settings.{averagedSpectra, periodTicks, runningOf}
+use Rattle.registers.specs.declared.Registers.{Registers}
+use Rattle.registers.proofs.Settings.{averaged-pos, averaged-le, period-pos, running-le}
+use Rattle.model.specs.Board.{phaseSound, spectraHeld}
+
+-- the phase after p
+abbrev pub nextPhase : Registers → ℕ → ℕ
+nextPhase r p = cond (eqb p (periodTicks r - 1)) 0 (p + 1)
+
+module _ (r : Registers) where
+  pub phase-zero : phaseSound r 0 ≡ true
+  unfolding phaseSound
+  phase-zero = cond-at (λ t. t ≡ true) (runningOf r) (λ e. lt-ltb 0 (periodTicks r) (period-pos r)) (λ e. refl)
+
+  pub held-zero : spectraHeld r 0 ≡ 0
+  held-zero = cond-same (runningOf r && ltb 0 (averagedSpectra r)) 0
+
+  pub held-le : (p : ℕ) → spectraHeld r p ≤ 1024
+  held-le p =
+      cond-at (λ x. x ≤ 1024) (runningOf r && ltb p (averagedSpectra r))
+      (λ e. omega (arith, ltb-true p (averagedSpectra r) (both (runningOf r) (ltb p (averagedSpectra r)) e .1), averaged-le r)) (λ e. lit≤ tt)
+
+  module _ (p : ℕ) where
+    pub phase-rest : runningOf r ≡ false → phaseSound r p ≡ true → p ≡ 0
+    unfolding phaseSound
+    phase-rest e h = eqb-true p 0 (rw e at h)
+
+    pub phase-lt : runningOf r ≡ true → phaseSound r p ≡ true → p < periodTicks r
+    unfolding phaseSound
+    phase-lt e h = ltb-true p (periodTicks r) (rw e at h)
+
+    pub phase-next : runningOf r ≡ true → phaseSound r p ≡ true → phaseSound r (nextPhase r p) ≡ true
+    unfolding phaseSound
+    phase-next e h =
+        let l : p < periodTicks r = phase-lt e h in
+        rw e
+        (cond-at (λ q. ltb q (periodTicks r) ≡ true) (eqb p (periodTicks r - 1))
+        (λ z. lt-ltb 0 (periodTicks r) (omega arith))
+        (λ n. let d : ¬ (p ≡ periodTicks r - 1) = eqb-false p (periodTicks r - 1) n in lt-ltb (p + 1) (periodTicks r) (omega arith)))
+
+  -- the spectra held at p of a running board
+  module _ (run : runningOf r ≡ true) (p : ℕ) where
+    held-all : p < averagedSpectra r → spectraHeld r p ≡ p
+    held-all l = rw (run, lt-ltb p (averagedSpectra r) l)
+
+    held-none : averagedSpectra r ≤ p → spectraHeld r p ≡ 0
+    held-none l = rw (run, le-ltb p (averagedSpectra r) l)
+
+    pub held-collecting : ltb p (averagedSpectra r - 1) ≡ true → spectraHeld r p ≡ p
+    held-collecting e = held-all (omega (arith, ltb-true p (averagedSpectra r - 1) e))
+
+    pub held-reporting : eqb p (averagedSpectra r - 1) ≡ true → spectraHeld r p + 1 ≡ averagedSpectra r
+    held-reporting e =
+        let q : p ≡ averagedSpectra r - 1 = eqb-true p (averagedSpectra r - 1) e in
+        omega (arith, averaged-pos r, held-all (omega (arith, averaged-pos r)))
+
+    pub held-waiting : ltb p (averagedSpectra r - 1) ≡ false → eqb p (averagedSpectra r - 1) ≡ false → spectraHeld r p ≡ 0
+    held-waiting e f =
+        let d : ¬ (p ≡ averagedSpectra r - 1) = eqb-false p (averagedSpectra r - 1) f in
+        held-none (omega (arith, ltb-false p (averagedSpectra r - 1) e))
+
+  -- the spectra held after p
+  pub next-collecting : runningOf r ≡ true → (p : ℕ) → ltb p (averagedSpectra r - 1) ≡ true → spectraHeld r (nextPhase r p) ≡ p + 1
+  next-collecting run p c =
+      let l : p < averagedSpectra r - 1 = ltb-true p (averagedSpectra r - 1) c in
+      let d : ¬ (p ≡ periodTicks r - 1) = λ z. omega (arith, running-le r run) in
+      subst (λ q. spectraHeld r q ≡ p + 1) (sym (cond-false (eqb p (periodTicks r - 1)) 0 (p + 1) (ne-eqb p (periodTicks r - 1) d)))
+      (held-all run (p + 1) (omega arith))
+
+  pub next-other : runningOf r ≡ true → (p : ℕ) → ltb p (averagedSpectra r - 1) ≡ false → spectraHeld r (nextPhase r p) ≡ 0
+  next-other run p c =
+      cond-at (λ q. spectraHeld r q ≡ 0) (eqb p (periodTicks r - 1)) (λ e. held-zero)
+      (λ e. held-none run (p + 1) (omega (arith, ltb-false p (averagedSpectra r - 1) c)))

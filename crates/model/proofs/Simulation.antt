@@ -1,0 +1,127 @@
+-- A call on the board follows the reference model's entry for it. Assumes nothing.
+use Prim.Native.Nat.{ℕ, _-_}
+use mathlib.Core.Path.{_≡_, refl, sym, ap, ap₂, _∙_}
+use mathlib.Core.Bool.{Bool, true, false, not, _&&_, and-false}
+use mathlib.Core.List.{List, [], _∷_, _++_}
+use native.Mathlib.Omega.{arith}
+use lib.ListN.{length}
+use lib.Dec.{leb, ltb, eqb}
+use borrow.Author.Tests.{ne-eqb, not-false}
+use Rattle.lists.specs.Tables.{overwrite}
+use Rattle.lists.proofs.Choices.{cond-related}
+use Rattle.registers.specs.Access.{isId, storedTo}
+use Rattle.registers.specs.Settings.{averagedSpectra, runningOf, specWords}
+use Rattle.registers.specs.declared.Registers.{Registers}
+use Rattle.model.specs.Reply.{waiting, reported}
+use Rattle.model.specs.Totals.{slot, added}
+use Rattle.model.specs.Report.{reportBytes, meansWithin}
+use Rattle.model.specs.Board.{CommandOutcome, TickOutcome, lengthsFit, reportOutcome, runningOutcome, commandOutcome, tickOutcome}
+use Rattle.model.specs.Reference.{Reference, Entry, entryReport, entryRunning, entry, spectraTotal}
+use Rattle.model.specs.Calls.{Powers, TotalsPassed, current, wrong, Memory, Call, command, tick, Typed, Performed, performCommand, performTick, perform, inputOf, outOf, answerOf, writtenBy}
+use Rattle.model.proofs.Phases.{nextPhase, held-waiting}
+use Rattle.model.proofs.Invariant.{heldTotals, Represents, Good, memory-sound, memory-length, held-no, held-added}
+use Rattle.model.proofs.Reports.{GoodReport, slot-held, report-ext, model-accepts, board-accepts}
+use Rattle.model.proofs.Keeps.{report-good}
+
+-- what a call leaves is what the model's entry e, made at registers r, says of it
+pub record Follows (r : Registers) (before : List ℕ) (e : Entry) (p : Performed) : Type 0 where
+  pub answer : p .answer ≡ answerOf r (e .reply)
+  pub out : p .out ≡ writtenBy r (e .reply) before
+  pub next : Represents (e .next) (p .memory)
+
+no-length {ℓ} : {A : Type ℓ} (l : List A) → length l ≡ 0 → l ≡ []
+no-length [] e = refl
+no-length (x ∷ l) e = absurd (omega arith)
+
+module _ (m : Reference) (g : Good m) (x : Memory) (h : Represents m x) where
+  abbrev r : Registers
+  r = m .registers
+
+  -- the call changes nothing
+  unchanged : Represents m (record { state = x .state; totals = x .totals })
+  unchanged = record { registers = h .registers; phase = h .phase; totals = h .totals }
+
+  -- ---- commands
+
+  abbrev FollowsCommand : TotalsPassed → CommandOutcome → Entry → Type 0
+  FollowsCommand t o e = Follows r [] e (performCommand x t o)
+
+  follows-command : (id v : ℕ) (t : TotalsPassed) → Follows r [] (entry m (inputOf (command id v t))) (perform x (command id v t))
+  unfolding entry commandOutcome
+  follows-command id v current =
+      rw (memory-length m x h, memory-sound m g x h)
+      (cond-related (FollowsCommand current) (not (isId id)) (not (isId id)) refl
+      (λ e. record { answer = refl; out = refl; next = unchanged })
+      (λ e. record {
+        answer = refl;
+        out = refl;
+        next = record { registers = ap (λ k. storedTo k id v) (h .registers); phase = refl; totals = held-no _ };
+      }))
+  follows-command id v (wrong l d) = rw (ne-eqb (length l) 784 d) (record { answer = refl; out = refl; next = unchanged })
+
+  -- ---- ticks
+
+  abbrev FollowsTick : List ℕ → TickOutcome → Entry → Type 0
+  FollowsTick out o e = Follows r out e (performTick x current o)
+
+  phase-follows : nextPhase (x .state .registers) (x .state .phase) ≡ nextPhase r (m .phase)
+  phase-follows = ap₂ nextPhase (h .registers) (h .phase)
+
+  module _ (run : runningOf r ≡ true) (ps out : List ℕ) (typed : Powers ps) where
+    abbrev sp : List (List ℕ)
+    sp = m .spectra ++ (ps ∷ [])
+
+    sums : added (x .state .registers) (x .totals) ps ≡ heldTotals r sp
+    sums = ap₂ (λ k l. added k l ps) (h .registers) (h .totals) ∙ held-added r (m .spectra) ps
+
+    bytes : GoodReport r sp → reportBytes (x .state .registers) (slot (added (x .state .registers) (x .totals) ps)) ≡ reportBytes r (spectraTotal r sp)
+    bytes k = ap₂ (λ q l. reportBytes q (slot l)) (h .registers) sums ∙ report-ext r _ _ (slot-held r sp)
+
+    follows-report : GoodReport r sp →
+        FollowsTick out (reportOutcome (x .state) (x .totals) (added (x .state .registers) (x .totals) ps) out) (entryReport m sp)
+    unfolding reportOutcome
+    follows-report k =
+        cond-related (FollowsTick out) (not (meansWithin (x .state .registers) (slot (added (x .state .registers) (x .totals) ps))))
+        (not (meansWithin r (spectraTotal r sp)))
+        (ap not (ap₂ (λ q l. meansWithin q (slot l)) (h .registers) sums ∙ board-accepts r sp k ∙ sym (model-accepts r sp k)))
+        (λ e. record { answer = refl; out = refl; next = unchanged })
+        (λ e. record {
+          answer = ap (λ q. reported (specWords q)) (h .registers);
+          out = ap (λ l. overwrite l out) (bytes k);
+          next = record { registers = h .registers; phase = phase-follows; totals = held-no r };
+        })
+
+    follows-running : FollowsTick out (runningOutcome (x .state) (x .totals) (added (x .state .registers) (x .totals) ps) out) (entryRunning m sp)
+    unfolding runningOutcome
+    follows-running =
+        cond-related (FollowsTick out) (ltb (x .state .phase) (averagedSpectra (x .state .registers) - 1)) (ltb (m .phase) (averagedSpectra r - 1))
+        (ap₂ (λ q p. ltb p (averagedSpectra q - 1)) (h .registers) (h .phase))
+        (λ c. record { answer = refl; out = refl; next = record { registers = h .registers; phase = phase-follows; totals = sums } })
+        (λ c. cond-related (FollowsTick out) (eqb (x .state .phase) (averagedSpectra (x .state .registers) - 1)) (eqb (m .phase) (averagedSpectra r - 1))
+        (ap₂ (λ q p. eqb p (averagedSpectra q - 1)) (h .registers) (h .phase))
+        (λ q. follows-report (report-good m g run ps typed q))
+        (λ q. record {
+          answer = refl;
+          out = refl;
+          next = record {
+            registers = h .registers;
+            phase = phase-follows;
+            totals = h .totals ∙ ap (heldTotals r) (no-length (m .spectra) (g .held ∙ held-waiting r run (m .phase) c q));
+          };
+        }))
+
+  follows-tick : (ps out : List ℕ) (t : TotalsPassed) → Powers ps → Follows r out (entry m (inputOf (tick ps t out))) (perform x (tick ps t out))
+  unfolding entry tickOutcome
+  follows-tick ps out current typed =
+      rw (memory-length m x h, memory-sound m g x h)
+      (cond-related (FollowsTick out) (not (lengthsFit (length ps) 784 (length out))) (not (lengthsFit (length ps) 784 (length out))) refl
+      (λ e. record { answer = refl; out = refl; next = unchanged })
+      (λ e. cond-related (FollowsTick out) (not (runningOf (x .state .registers))) (not (runningOf r)) (ap (λ q. not (runningOf q)) (h .registers))
+      (λ e. record { answer = refl; out = refl; next = unchanged })
+      (λ e. follows-running (not-false (runningOf r) e) ps out typed)))
+  follows-tick ps out (wrong l d) typed =
+      rw (ne-eqb (length l) 784 d, and-false (eqb (length ps) 7168)) (record { answer = refl; out = refl; next = unchanged })
+
+  pub follows : (c : Call) → Typed c → Follows r (outOf c) (entry m (inputOf c)) (perform x c)
+  follows (command id v t) typed = follows-command id v t
+  follows (tick ps t out) typed = follows-tick ps out t typed

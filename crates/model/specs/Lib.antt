@@ -1,0 +1,8 @@
+-- What a reader must believe of the board: its rules, the reference model, and demand 3.
+pub mod Reply
+pub mod Totals
+pub mod Report
+pub mod Board
+pub mod Reference
+pub mod Calls
+pub mod Demand

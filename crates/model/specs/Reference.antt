@@ -1,0 +1,80 @@
+-- 01, "Demand 3 and its plain book": the reference model, which is that book. It holds registers, a phase and spectra, takes what a caller
+-- hands in, and nothing of the board's state, totals or answers. It imports nothing of `Board`.
+use Prim.Native.Nat.{ℕ, _+_, _-_}
+use mathlib.Core.Bool.{Bool, cond, not, _&&_}
+use mathlib.Core.List.{List, [], _∷_, _++_}
+use lib.ListN.{length}
+use lib.Dec.{leb, ltb, eqb}
+use Rattle.registers.specs.Store.{stored}
+use Rattle.registers.specs.Access.{isId, storedTo}
+use Rattle.registers.specs.Settings.{averagedSpectra, periodTicks, runningOf}
+use Rattle.registers.specs.declared.Registers.{Registers}
+use Rattle.model.specs.Reply.{Reply, refused, stores, idle, collected, waiting, reported}
+use Rattle.model.specs.Totals.{bandPower}
+use Rattle.model.specs.Report.{meansWithin}
+
+-- what the book holds; spectra are 7 rows each, as handed in, oldest first
+pub record Reference : Type 0 where
+  pub registers : Registers
+  pub phase : ℕ
+  pub spectra : List (List ℕ)
+
+-- what it takes of a call: a command's ID and information or a tick's powers, and the lengths of the lists and outputs passed
+pub data Input : Type 0 where
+  command : (id information totalsLength : ℕ) → Input
+  tick : (powers : List ℕ) (totalsLength outLength : ℕ) → Input
+
+-- what it answers, and what it then holds
+pub record Entry : Type 0 where
+  pub reply : Reply (List (List ℕ))
+  pub next : Reference
+
+-- 01's T: the sum, over the spectra, of processor n's powers in band b
+abbrev pub spectraTotal : Registers → List (List ℕ) → ℕ → ℕ → ℕ
+spectraTotal r [] n b = 0
+spectraTotal r (powers ∷ spectra) n b = bandPower r powers n b + spectraTotal r spectra n b
+
+-- a refused call changes nothing
+abbrev pub entryRefused : Reference → ℕ → Entry
+entryRefused m n = record { reply = refused n; next = m }
+
+-- a command: refused by 2, then 1; else it stores by the register rule, sets the phase to 0 and drops the spectra
+abbrev pub entryCommand : Reference → ℕ → ℕ → ℕ → Entry
+entryCommand m id v totalsLength =
+    cond (not (eqb totalsLength 784)) (entryRefused m 2)
+    (cond (not (isId id)) (entryRefused m 1)
+    (record { reply = stores (stored id v); next = record { registers = storedTo (m .registers) id v; phase = 0; spectra = [] } }))
+
+-- the phase becomes p + 1, or 0 after C - 1
+abbrev pub onward : Reference → List (List ℕ) → Reference
+onward m spectra =
+    record { registers = m .registers; phase = cond (eqb (m .phase) (periodTicks (m .registers) - 1)) 0 (m .phase + 1); spectra = spectra }
+
+-- at p = N - 1: refused by 13, else it reports on its spectra and drops them
+abbrev pub entryReport : Reference → List (List ℕ) → Entry
+entryReport m spectra =
+    cond (not (meansWithin (m .registers) (spectraTotal (m .registers) spectra))) (entryRefused m 13)
+    (record { reply = reported spectra; next = onward m [] })
+
+-- a tick when running: at p < N it keeps the tick's rows as one spectrum, and at p ≥ N nothing; spectra has the tick's rows too
+abbrev pub entryRunning : Reference → List (List ℕ) → Entry
+entryRunning m spectra =
+    cond (ltb (m .phase) (averagedSpectra (m .registers) - 1)) (record { reply = collected; next = onward m spectra })
+    (cond (eqb (m .phase) (averagedSpectra (m .registers) - 1)) (entryReport m spectra)
+    (record { reply = waiting; next = onward m [] }))
+
+-- a tick: refused by 2; not running, it changes nothing
+abbrev pub entryTick : Reference → List ℕ → ℕ → ℕ → Entry
+entryTick m powers totalsLength outLength =
+    cond (not (eqb (length powers) 7168 && eqb totalsLength 784 && leb 1176 outLength)) (entryRefused m 2)
+    (cond (not (runningOf (m .registers))) (record { reply = idle; next = m })
+    (entryRunning m (m .spectra ++ (powers ∷ []))))
+
+unfoldable pub entry : Reference → Input → Entry
+entry m (command id v totalsLength) = entryCommand m id v totalsLength
+entry m (tick powers totalsLength outLength) = entryTick m powers totalsLength outLength
+
+-- the model after a list of calls
+abbrev pub after : Reference → List Input → Reference
+after m [] = m
+after m (i ∷ is) = after (entry m i .next) is

@@ -1,0 +1,61 @@
+// The rules of the board as definitions, its reference model, and demand 3 (01, "Periods" and "Demand 3 and its plain book").
+// The only code is the state's reset: crate `board` has the functions that meet these rules.
+ghost use mathlib.Core.Path.{_≡_};
+ghost use Rattle.model.specs.Board.{resetState};
+use refusal::Refusal;
+use registers::Answer;
+use registers::Registers;
+
+// The registers, and the phase in ticks since the period began.
+pub struct State {
+    pub registers: Registers,
+    pub phase: u16,
+}
+
+// The answer of a command, which is the value stored, and the state after it.
+pub struct Commanded {
+    pub answer: Answer,
+    pub state: State,
+}
+
+// The answer of a tick in 01's words; a report has its number of words.
+pub enum TickAnswer {
+    Idle,
+    Collected,
+    Reported(u16),
+    Waiting,
+    Refused(Refusal),
+}
+
+// The answer of a tick, and the state after it.
+pub struct Ticked {
+    pub answer: TickAnswer,
+    pub state: State,
+}
+
+impl State {
+    // The bins of a spectrum.
+    pub const BINS: usize = 1024;
+
+    // The totals of a processor.
+    pub const BANDS: usize = 112;
+
+    // The number of totals that a caller passes: 112 for each of 7 processors.
+    pub const TOTALS: usize = 784;
+
+    // The number of powers of a tick: 1,024 for each of 7 processors.
+    pub const POWERS: usize = 7168;
+
+    // The bytes of the longest report.
+    pub const OUTPUT: usize = 1176;
+
+    // The state after reset.
+    pub fn reset() -> Self
+        ensures { λ r. ⌜ r ≡ resetState ⌝ }
+    {
+        State {
+            registers: Registers::reset(),
+            phase: 0,
+        }
+    }
+}
