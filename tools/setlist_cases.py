@@ -1,0 +1,157 @@
+#!/usr/bin/env python3
+"""setlist_cases.py: writes crates/setlist_cases, its program from the list of cases below and its expected output from listing_model.py."""
+import os
+
+from listing_model import LEGAL, listing
+
+CRATE = os.path.join(os.path.dirname(os.path.abspath(__file__)), "..", "crates", "setlist_cases")
+
+
+def h(text):
+    return bytes.fromhex(text.replace(" ", ""))
+
+
+def spec(words, code):
+    """Words of SPEC: word j has band 2j + 1 in the upper byte and band 2j in the lower."""
+    return b"".join(bytes([2, 0x4E, code(2 * j + 1), code(2 * j)]) for j in range(words))
+
+
+def by_place(band):
+    return LEGAL[band % len(LEGAL)]
+
+
+LARGEST = 0xEF
+E_SVY = h("02430001 0243FFFF 02438000")
+SEVEN = b"".join(h("01%02X0020" % (0x30 + n)) for n in range(1, 7))
+
+# A heading, and the logs under it.
+CASES = [
+    ("01's whole case", [h("013000E3") + E_SVY + h("0300000007 04")]),
+    ("the empty log", [b""]),
+    ("a set of each waveform APID", [
+        E_SVY
+        + h("02440001 02440002 02440003 02440004 02440005 02440006 0244FFF9")
+        + h("02450000 02458000 02457FFF 0246000A 0246000B 0246FFF6")
+        + h("02470001 02470002 02470003 02470004 02470005 02470006 02480009 02480063 024803E7")
+    ]),
+    ("second marks: 0, 9, 10, 4294967295", [h("0300000000 0300000009 030000000A 03FFFFFFFF")]),
+    ("the register rules: 0xFFFF and 0xAB16 to 0x30, 0xFFFF to 0x31 and 0x36, 0x0017 and 0x0018 to 0x30",
+     [h("0130FFFF 0130AB16 0131FFFF 0136FFFF 01300017 01300018")]),
+    ("1: IDs 0x2F and 0x37", [h("012F0000"), h("04 01370000")]),
+    ("4: APIDs 0x42, 0x49, 0x4D and 0x4F", [h("02420000"), h("02490000"), h("024D0000"), h("04 024F0000")]),
+    ("5: a set ended by the log's end, a tick, a second mark, a command, a word of another APID",
+     [h("02430001 02430002"), h("02430001 04"), h("02430001 0300000000"), h("02430001 01300000"), h("02430001 02440001")]),
+    ("6", [h("024E0000")]),
+    ("7: either byte, in the first word and in a later one",
+     [h("01300020 024E0800"), h("01300020 024E0008"), h("01300020") + spec(3, by_place) + h("024E00F4")]),
+    ("9: kinds 00, 05 and FF", [h("00"), h("04 05"), h("FF")]),
+    ("10: one byte too few of each kind", [h("01"), h("013000"), h("024300"), h("03000000")]),
+    ("9 comes before 5", [h("02430001 05")]),
+    ("10 comes before 5", [h("02430001 0243"), h("02430001 03000000")]),
+    ("10 comes before 1 and 4", [h("01FF00"), h("02FF00")]),
+    ("5 comes before 1 and 4", [h("02430001 01000000"), h("02430001 02420000")]),
+    ("5 comes before 7", [h("01300020") + spec(3, by_place) + h("02430808")]),
+    ("4 comes before 6: an APID that is not kept, no processor enabled", [h("02420000")]),
+    ("6 comes before 7", [h("01300040 024E08F0")]),
+    ("SPEC at 36, 64 and 112 bands, one processor",
+     [h("0130%04X" % (setting << 6 | 0x20)) + spec(words, by_place) for setting, words in ((0, 18), (1, 32), (2, 56))]),
+    ("SPEC at 36, 64 and 112 bands, seven processors",
+     [h("0130%04X" % (setting << 6 | 0x20)) + SEVEN + spec(7 * words, by_place) for setting, words in ((0, 18), (1, 32), (2, 56))]),
+    ("SPEC of processors 2 and 7, then a tick", [h("01310032 01360020") + spec(36, by_place) + h("04")]),
+    ("register changes between sets: bands, then a second processor",
+     [h("01300060") + spec(32, lambda b: 0xEC) + h("01300021") + spec(18, lambda b: 5) + h("01350036") + spec(36, lambda b: b % 8)]),
+    ("a SPEC set ended by the log's end one word short", [h("01300020") + spec(17, lambda b: 1)]),
+    ("the longest lines: 112 bands at the largest value", [h("013000B6") + spec(56, lambda b: LARGEST)]),
+]
+
+HEAD = '''// Lists logs that are held as constants, some for each rule of 01 on the walk and the text. tools/setlist_cases.py writes this file and
+// the expected output, the latter from a model of its own.
+use refusal::Written;
+
+// Prints the listing of a log, made in out.
+fn show_in(log: &[u8], out: &mut [u8]) {
+    match listing::listing(log, out) {
+        Written::Count(n) => {
+            io::write_all(1, &out[..n]);
+        }
+        Written::Refused(_) => {
+            io::write_all(1, b"refused\\n");
+        }
+    }
+}
+
+fn show(log: &[u8]) {
+    let mut out = [0u8; 16384];
+    show_in(log, &mut out);
+}
+
+// The same with an output of 70 bytes, which is enough for a log of one byte and for one over 65,536.
+fn show_small(log: &[u8]) {
+    let mut out = [0u8; 70];
+    show_in(log, &mut out);
+}
+
+'''
+
+TAIL = '''fn small_outputs() {
+    // 2: the output has 6 bytes for each of the log and 64 more, or it is refused
+    show_small(b"\\x04");
+    show_small(b"\\x04\\x04");
+    // 11: a log of 65,537 bytes
+    let long = [4u8; 65537];
+    show_small(&long);
+}
+
+// The number of bytes of a listing, and its last 16.
+fn show_end(out: &[u8], n: usize) {
+    io::print_decimal(1, n as u64);
+    io::write_all(1, b"\\n");
+    if n < 16 {
+        return;
+    }
+    if out.len() < n {
+        return;
+    }
+    let from = n - 16;
+    io::write_all(1, &out[from..n]);
+}
+
+// The largest log: 65,536 ticks.
+fn largest_log() {
+    let log = [4u8; 65536];
+    let mut out = [0u8; 393280];
+    match listing::listing(&log, &mut out) {
+        Written::Count(n) => show_end(&out, n),
+        Written::Refused(_) => {
+            io::write_all(1, b"refused\\n");
+        }
+    }
+}
+
+'''
+
+
+def literal(log):
+    return 'b"' + "".join("\\x%02x" % b for b in log) + '"'
+
+
+def main():
+    source, expected, calls = HEAD, "", []
+    for number, (heading, logs) in enumerate(CASES):
+        body = "".join("    show(%s);\n" % literal(log) for log in logs)
+        source += "// %s\nfn case_%d() {\n%s}\n\n" % (heading, number + 1, body)
+        calls.append("    case_%d();\n" % (number + 1))
+        expected += "".join(listing(log) for log in logs)
+    source += TAIL
+    expected += listing(b"\x04") + "refused\n" + listing(b"\x04" * 65537) 
+    largest = listing(b"\x04" * 65536)
+    expected += "%d\n%s" % (len(largest), largest[-16:])
+    source += "fn main() {\n%s    small_outputs();\n    largest_log();\n}\n" % "".join(calls)
+    with open(os.path.join(CRATE, "src", "main.rt"), "w", encoding="utf8") as out:
+        out.write(source)
+    with open(os.path.join(CRATE, "stdout"), "w", encoding="utf8") as out:
+        out.write(expected)
+
+
+if __name__ == "__main__":
+    main()
