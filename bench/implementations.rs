@@ -1,0 +1,92 @@
+//! The implementations that tests and benchmark set side by side, under one interface. Answers are the numbers of include/dfb.h.
+use crate::plain_rust;
+
+/// State, totals, powers and output.
+type Tick = fn(&mut [u16], &mut [u64], &[u32], &mut [u8]) -> u32;
+
+pub struct Implementation {
+    pub name: &'static str,
+    pub tick: Tick,
+    pub pack: fn(u8, &[i16], &mut [u8]) -> u32,
+    pub listing: fn(&[u8], &mut [u8]) -> u64,
+}
+
+/// An implementation over C functions.
+macro_rules! over_c {
+    ($name:literal, $tick:path, $pack:path, $listing:path) => {
+        // SAFETY: each pointer is valid for its length, and no two slices overlap.
+        Implementation {
+            name: $name,
+            tick: |state, totals, powers, out| unsafe {
+                let (state_len, totals_len, out_len) = (state.len(), totals.len(), out.len());
+                $tick(
+                    state.as_mut_ptr(),
+                    state_len,
+                    totals.as_mut_ptr(),
+                    totals_len,
+                    powers.as_ptr(),
+                    powers.len(),
+                    out.as_mut_ptr(),
+                    out_len,
+                )
+            },
+            pack: |apid, samples, out| unsafe { $pack(apid, samples.as_ptr(), samples.len(), out.as_mut_ptr(), out.len()) },
+            listing: |log, out| unsafe { $listing(log.as_ptr(), log.len(), out.as_mut_ptr(), out.len()) },
+        }
+    };
+}
+
+/// The functions that one compiler made of plain.c.
+#[cfg(any(gcc, clang))]
+macro_rules! declare {
+    ($tick:ident, $pack:ident, $listing:ident, $sum:ident) => {
+        extern "C" {
+            fn $tick(
+                state: *mut u16,
+                state_len: usize,
+                totals: *mut u64,
+                totals_len: usize,
+                powers: *const u32,
+                powers_len: usize,
+                out: *mut u8,
+                out_len: usize,
+            ) -> u32;
+            fn $pack(apid: u8, samples: *const i16, samples_len: usize, out: *mut u8, out_len: usize) -> u32;
+            fn $listing(log: *const u8, log_len: usize, out: *mut u8, out_len: usize) -> u64;
+            fn $sum(powers: *const u32, powers_len: usize) -> u64;
+        }
+    };
+}
+
+#[cfg(gcc)]
+declare!(gcc_tick, gcc_pack, gcc_listing, gcc_sum);
+#[cfg(clang)]
+declare!(clang_tick, clang_pack, clang_listing, clang_sum);
+
+/// The proved library.
+pub fn proved() -> Implementation {
+    over_c!("proved", dfb::ffi::dfb_tick, dfb::ffi::dfb_pack, dfb::ffi::dfb_listing)
+}
+
+/// Plain C by each compiler that is there, and plain Rust.
+pub fn plain() -> Vec<Implementation> {
+    vec![
+        #[cfg(gcc)]
+        over_c!("gcc -O3", gcc_tick, gcc_pack, gcc_listing),
+        #[cfg(clang)]
+        over_c!("clang -O3", clang_tick, clang_pack, clang_listing),
+        Implementation { name: "plain Rust", tick: plain_rust::tick, pack: plain_rust::pack, listing: plain_rust::listing },
+    ]
+}
+
+/// One plain loop that sums powers, by each compiler.
+pub fn sums() -> Vec<fn(&[u32]) -> u64> {
+    vec![
+        // SAFETY: each pointer is valid for its length.
+        #[cfg(gcc)]
+        |powers| unsafe { gcc_sum(powers.as_ptr(), powers.len()) },
+        #[cfg(clang)]
+        |powers| unsafe { clang_sum(powers.as_ptr(), powers.len()) },
+        plain_rust::sum,
+    ]
+}

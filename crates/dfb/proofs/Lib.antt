@@ -1,0 +1,5 @@
+pub mod Numbers
+pub mod State
+pub mod Values
+pub mod Calls
+pub mod Theorems

@@ -1,0 +1,209 @@
+"""The stand-in for the Digital Fields Board, for scripts: a thin module over the proved library libdfb.so (include/dfb.h).
+
+Each function calls the C function of its name. A refusal raises Refused with its number and changes nothing. A number that does not fit
+its C type raises OverflowError. libdfb.so is looked for in the folder DFB_LIB, or beside this file, or in dist/.
+"""
+import array
+import ctypes
+import os
+
+STATE, TOTALS, POWERS, OUTPUT = 8, 784, 7168, 1176
+COMMAND, WORD, SECOND_MARK, TICK = 1, 2, 3, 4
+
+CAUSES = {
+    1: "the command ID is outside 0x30 to 0x36",
+    2: "a list has a wrong length, or an output is too small",
+    3: "the state is not one that the board can have left",
+    4: "the APID is none of the seven, or 0x4E where a waveform's is wanted",
+    5: "the set is not complete",
+    6: "a SPEC word with no processor enabled",
+    7: "the band code is not legal",
+    8: "the sum code's value is 2^64 or more",
+    9: "the record kind is none of 1 to 4",
+    10: "the log ends within a record",
+    11: "the log is over 65,536 bytes",
+    12: "a bin setting, band or FFT bin is out of range",
+    13: "a band mean is over 2^32 - 1",
+}
+
+
+class Refused(Exception):
+    """A refusal; `number` is its number in the rules."""
+
+    def __init__(self, number):
+        super().__init__("refusal %d: %s" % (number, CAUSES[number]))
+        self.number = number
+
+
+def _load():
+    here = os.path.dirname(os.path.abspath(__file__))
+    folders = [os.environ["DFB_LIB"]] if "DFB_LIB" in os.environ else [here, os.path.join(here, "..", "dist")]
+    for folder in folders:
+        path = os.path.join(folder, "libdfb.so")
+        if os.path.exists(path):
+            return ctypes.CDLL(path)
+    raise ImportError("libdfb.so is not in " + " nor in ".join(folders))
+
+
+U8, U16, U32, U64, SIZE = ctypes.c_uint8, ctypes.c_uint16, ctypes.c_uint32, ctypes.c_uint64, ctypes.c_size_t
+
+
+def _list(c_type):
+    return [ctypes.POINTER(c_type), SIZE]
+
+
+_library = _load()
+for _name, _answer, _arguments in (
+    ("command", U32, _list(U16) + _list(U64) + [U8, U16]),
+    ("read", U32, _list(U16) + [U8]),
+    ("tick", U32, _list(U16) + _list(U64) + _list(U32) + _list(U8)),
+    ("pack", U32, [U8] + _list(ctypes.c_int16) + _list(U8)),
+    ("unpack", U32, [U8] + _list(U8) + _list(ctypes.c_int16)),
+    ("append", U64, _list(U8) + [SIZE, U8, U8, U32]),
+    ("listing", U64, _list(U8) + _list(U8)),
+    ("band_of", U16, [U8, U16]),
+    ("compress_band", U8, [U32]),
+    ("expand_band", U64, [U8]),
+    ("compress_sum", U16, [U64]),
+    ("expand_sum", U32, [U16] + _list(U64)),
+    ("describe_band", U32, [U8, U8] + _list(ctypes.c_float)),
+):
+    _function = getattr(_library, "dfb_" + _name)
+    _function.restype, _function.argtypes = _answer, _arguments
+
+
+def _number(value, bits):
+    """The number, which ctypes by itself would cut to its bits."""
+    if not 0 <= value < 1 << bits:
+        raise OverflowError("%d does not fit %d bits" % (value, bits))
+    return value
+
+
+def _numbers(type_code, c_type, values):
+    """A C list of numbers; array raises OverflowError where one does not fit."""
+    values = array.array(type_code, values)
+    return (c_type * len(values)).from_buffer_copy(values)
+
+
+def _answer_below(refused, answer):
+    if answer >= refused:
+        raise Refused(answer - refused)
+    return answer
+
+
+def _below_8(answer):
+    return _answer_below(0x100, answer)
+
+
+def _below_16(answer):
+    return _answer_below(0x10000, answer)
+
+
+def _below_63(answer):
+    return _answer_below(1 << 63, answer)
+
+
+class Board:
+    """A board after reset. Its state (registers 0x30 to 0x36 and the phase) and totals are kept here between the calls."""
+
+    def __init__(self):
+        self.state = (U16 * STATE)()
+        self.totals = (U64 * TOTALS)()
+
+    def command(self, ident, information):
+        """Sends a command: the value stored."""
+        return _below_16(_library.dfb_command(self.state, STATE, self.totals, TOTALS, _number(ident, 8), _number(information, 16)))
+
+    def read(self, ident):
+        """The value of a register."""
+        return _below_16(_library.dfb_read(self.state, STATE, _number(ident, 8)))
+
+    def tick(self, powers):
+        """One tick with 7 rows of 1,024 powers: "idle", "collected", "waiting", or a report's words as bytes."""
+        powers, out = _numbers("I", U32, powers), (U8 * OUTPUT)()
+        answer = _library.dfb_tick(self.state, STATE, self.totals, TOTALS, powers, len(powers), out, OUTPUT)
+        if answer >= 0x20000:
+            return bytes(out[: 3 * (answer - 0x20000)])
+        return ("idle", "collected", "waiting")[_below_16(answer)]
+
+
+def pack(apid, samples):
+    """The bytes of one waveform set."""
+    samples, out = _numbers("h", ctypes.c_int16, samples), (U8 * 21)()
+    return bytes(out[: _below_16(_library.dfb_pack(_number(apid, 8), samples, len(samples), out, len(out)))])
+
+
+def unpack(apid, data):
+    """The samples of one waveform set."""
+    data, samples = _numbers("B", U8, data), (ctypes.c_int16 * 7)()
+    return samples[: _below_16(_library.dfb_unpack(_number(apid, 8), data, len(data), samples, len(samples)))]
+
+
+def append(log, used, kind, a=0, b=0):
+    """Writes one record to the bytearray `log` behind the bytes used: the new number of bytes used. `a` is the ID or the APID, `b` the 16
+    bits or the seconds."""
+    numbers = _number(used, 64), _number(kind, 8), _number(a, 8), _number(b, 32)
+    buffer = (U8 * len(log)).from_buffer(log)
+    answer = _library.dfb_append(buffer, len(log), *numbers)
+    del buffer  # a refusal's traceback would keep it, and the log's length fixed
+    return _below_63(answer)
+
+
+def listing(log):
+    """The text that setlist prints for a log."""
+    log = _numbers("B", U8, log)
+    out = (U8 * (6 * len(log) + 64))()
+    return bytes(out[: _below_63(_library.dfb_listing(log, len(log), out, len(out)))]).decode("ascii")
+
+
+def band_of(setting, fft_bin):
+    """The band of an FFT bin."""
+    return _below_8(_library.dfb_band_of(_number(setting, 8), _number(fft_bin, 16)))
+
+
+def compress_band(value):
+    """The band code of a value."""
+    return _library.dfb_compress_band(_number(value, 32))
+
+
+def expand_band(code):
+    """The value of a band code."""
+    return _below_63(_library.dfb_expand_band(_number(code, 8)))
+
+
+def compress_sum(value):
+    """The sum code of a value."""
+    return _library.dfb_compress_sum(_number(value, 64))
+
+
+def expand_sum(code):
+    """The value of a sum code."""
+    value = (U64 * 1)()
+    _below_16(_library.dfb_expand_sum(_number(code, 16), value, 1))
+    return value[0]
+
+
+def describe_band(setting, band):
+    """Low edge, centre and width of a band in hertz."""
+    three = (ctypes.c_float * 3)()
+    _below_16(_library.dfb_describe_band(_number(setting, 8), _number(band, 8), three, 3))
+    return tuple(three)
+
+
+if __name__ == "__main__":
+    # Two spectra are averaged (N = C = 2, 36 bands, processor 1), and the report is logged and listed.
+    board, log, used = Board(), bytearray(1000), 0
+    print("stored 0x%04X" % board.command(0x30, 0x1120))
+    used = append(log, used, COMMAND, 0x30, 0x1120)
+    for power in (8, 11):
+        report = board.tick([power] * POWERS)
+        used = append(log, used, TICK)
+    print("reported %d words" % (len(report) // 3))
+    for at in range(0, len(report), 3):
+        used = append(log, used, WORD, report[at], report[at + 1] << 8 | report[at + 2])
+    print("band 0 starts at %g Hz, has its centre at %g Hz and is %g Hz wide" % describe_band(0, 0))
+    print(listing(log[:used]), end="")
+    try:
+        board.command(0x37, 0)
+    except Refused as refused:
+        print(refused)

@@ -1,0 +1,241 @@
+//! Nanoseconds of tick, listing and pack: the proved library beside plain C and plain Rust, which make the same checks, in one run on the
+//! same inputs. Each figure is the best of many rounds (DFB_ROUNDS, 60 unless set). Before a row is timed, all must agree.
+#[path = "../../bench/implementations.rs"]
+mod implementations;
+#[path = "../../bench/plain.rs"]
+mod plain_rust;
+#[path = "../tests/differential/random.rs"]
+#[allow(dead_code)]
+mod random;
+
+use implementations::Implementation;
+use random::Random;
+use std::hint::black_box;
+use std::time::Instant;
+
+const TICKS: usize = 168;
+const LISTINGS: usize = 4;
+const PACKS: usize = 4000;
+
+/// Spectra that the ticks take in turn.
+struct Spectra(Vec<Vec<u32>>);
+
+impl Spectra {
+    fn new() -> Spectra {
+        let mut r = Random::new(1);
+        Spectra((0..8).map(|_| (0..dfb::POWERS).map(|_| (r.any_size() >> 32) as u32).collect()).collect())
+    }
+
+    fn at(&self, tick: usize) -> &[u32] {
+        &self.0[tick % self.0.len()]
+    }
+}
+
+/// The memory of a board.
+#[derive(Clone, PartialEq)]
+struct Board {
+    state: [u16; dfb::STATE],
+    totals: Vec<u64>,
+    out: Vec<u8>,
+}
+
+/// Ticks of one kind: the board's registers, and for waiting ticks the phase that they start from.
+struct Ticks {
+    name: &'static str,
+    navg: u16,
+    ncad: u16,
+    waiting: bool,
+}
+
+const KINDS: [Ticks; 4] = [
+    Ticks { name: "N = C = 1: reported", navg: 0, ncad: 0, waiting: false },
+    Ticks { name: "N = C = 8: whole periods", navg: 3, ncad: 3, waiting: false },
+    Ticks { name: "N = C = 1024: collected", navg: 10, ncad: 10, waiting: false },
+    Ticks { name: "N = 1, C = 8: waiting", navg: 0, ncad: 3, waiting: true },
+];
+
+impl Ticks {
+    fn board(&self, processors: usize, setting: u16) -> Board {
+        let mut state = [0; dfb::STATE];
+        state[..processors].fill(0x20);
+        state[0] |= self.ncad << 12 | self.navg << 8 | setting << 6;
+        Board { state, totals: vec![0; dfb::TOTALS], out: vec![0; dfb::OUTPUT] }
+    }
+
+    /// Runs ticks on the board; the sum of their answers.
+    fn run(&self, implementation: &Implementation, board: &mut Board, spectra: &Spectra) -> u64 {
+        let mut answers = 0;
+        for tick in 0..TICKS {
+            if self.waiting && tick % 7 == 0 {
+                board.state[7] = 1;
+            }
+            let powers = black_box(spectra.at(tick));
+            answers += (implementation.tick)(&mut board.state, &mut board.totals, powers, &mut board.out) as u64;
+        }
+        answers
+    }
+}
+
+fn nanoseconds(calls: usize, run: impl FnOnce() -> u64) -> f64 {
+    let start = Instant::now();
+    black_box(run());
+    start.elapsed().as_nanos() as f64 / calls as f64
+}
+
+struct Bench {
+    implementations: Vec<Implementation>,
+    rounds: usize,
+    /// The physical limit of seven processors.
+    limit: f64,
+    /// For each plain implementation the least and the greatest ratio of the ticks.
+    ratios: Vec<(f64, f64)>,
+}
+
+impl Bench {
+    /// The least time of each implementation, taken in turn.
+    fn best(&self, mut time: impl FnMut(&Implementation) -> f64) -> Vec<f64> {
+        let mut best = vec![f64::INFINITY; self.implementations.len()];
+        for _ in 0..self.rounds {
+            for (best, implementation) in best.iter_mut().zip(&self.implementations) {
+                *best = best.min(time(implementation));
+            }
+        }
+        best
+    }
+
+    fn heading(&self) {
+        print!("{:<46}", "nanoseconds, and the proved one's ratio to each");
+        self.implementations.iter().for_each(|implementation| print!("{:>12}", implementation.name));
+        self.implementations[1..].iter().for_each(|implementation| print!("{:>14}", format!("/ {}", implementation.name)));
+        println!("{:>9}", "/ limit");
+    }
+
+    /// Prints a row; the ratios.
+    fn row(&self, name: &str, best: &[f64], has_limit: bool) -> Vec<f64> {
+        let ratios: Vec<f64> = best[1..].iter().map(|time| best[0] / time).collect();
+        print!("{name:<46}");
+        best.iter().for_each(|time| print!("{time:>12.1}"));
+        ratios.iter().for_each(|ratio| print!("{ratio:>14.2}"));
+        println!("{}", if has_limit { format!("{:>9.2}", best[0] / self.limit) } else { String::new() });
+        ratios
+    }
+
+    fn tick(&mut self, kind: &Ticks, processors: usize, setting: u16, spectra: &Spectra) {
+        let start = kind.board(processors, setting);
+        let mut results: Vec<(u64, Board)> = vec![];
+        for implementation in &self.implementations {
+            let mut board = start.clone();
+            results.push((kind.run(implementation, &mut board, spectra), board));
+        }
+        let name = format!("tick, {processors} of 7, {} bands, {}", [36, 64, 112][setting as usize], kind.name);
+        assert!(results.iter().all(|result| *result == results[0]), "{name}: the implementations differ");
+
+        let best = self.best(|implementation| {
+            let mut board = start.clone();
+            nanoseconds(TICKS, || kind.run(implementation, &mut board, spectra))
+        });
+        let ratios = self.row(&name, &best, processors == 7 && !kind.waiting);
+        for ((least, greatest), ratio) in self.ratios.iter_mut().zip(ratios) {
+            (*least, *greatest) = (least.min(ratio), greatest.max(ratio));
+        }
+    }
+
+    fn listing(&self, name: &str, log: &[u8]) {
+        let mut out = vec![0; 6 * log.len() + 64];
+        let mut texts = vec![];
+        for implementation in &self.implementations {
+            let count = (implementation.listing)(log, &mut out);
+            texts.push(out[..count as usize].to_vec());
+        }
+        assert!(texts.iter().all(|text| *text == texts[0]), "{name}: the implementations differ");
+        let best = self.best(|implementation| {
+            nanoseconds(LISTINGS, || (0..LISTINGS).map(|_| (implementation.listing)(black_box(log), black_box(&mut out))).sum())
+        });
+        self.row(&format!("listing of {} bytes, {name}", log.len()), &best, false);
+    }
+
+    fn pack(&self) {
+        let mut r = Random::new(2);
+        let samples: Vec<i16> = (0..7).map(|_| r.next() as i16).collect();
+        let mut results = vec![];
+        for implementation in &self.implementations {
+            let mut out = [0; 21];
+            results.push(((implementation.pack)(0x44, &samples, &mut out), out));
+        }
+        assert!(results.iter().all(|result| *result == results[0]), "pack: the implementations differ");
+        let best = self.best(|implementation| {
+            let mut out = [0; 21];
+            nanoseconds(PACKS, || (0..PACKS).map(|_| (implementation.pack)(0x44, black_box(&samples), black_box(&mut out)) as u64).sum())
+        });
+        self.row("pack of 7 samples", &best, false);
+    }
+}
+
+/// The best time of one plain loop over the powers of seven processors.
+fn sum_of_powers(rounds: usize, spectra: &Spectra) -> f64 {
+    let mut best = f64::INFINITY;
+    for _ in 0..rounds {
+        for sum in implementations::sums() {
+            best = best.min(nanoseconds(TICKS, || (0..TICKS).fold(0, |all, tick| all ^ sum(black_box(spectra.at(tick))))));
+        }
+    }
+    best
+}
+
+// ---- logs of at most 65,536 bytes ----
+
+/// Repeats a part behind a head while it fits.
+fn repeated(head: &[u8], part: &[u8]) -> Vec<u8> {
+    let mut log = head.to_vec();
+    while log.len() + part.len() <= 65536 {
+        log.extend_from_slice(part);
+    }
+    log
+}
+
+fn legal_code(r: &mut Random) -> u8 {
+    (r.below(29) * 8 + 12 + r.below(4)) as u8
+}
+
+fn spec_words(r: &mut Random, words: usize) -> Vec<u8> {
+    (0..words).flat_map(|_| [2, 0x4E, legal_code(r), legal_code(r)]).collect()
+}
+
+/// Seconds of a survey: a mark, eight ticks, the survey's waveform sets, and a SPEC set of one processor at 36 bands.
+fn survey_log(r: &mut Random) -> Vec<u8> {
+    let mut second = vec![3, 0x47, 0xC9, 0x9A, 0x40, 4, 4, 4, 4, 4, 4, 4, 4];
+    for (apid, words) in [(0x43, 3), (0x44, 7), (0x45, 3)] {
+        (0..words).for_each(|_| second.extend([2, apid, r.next() as u8, r.next() as u8]));
+    }
+    second.extend(spec_words(r, 18));
+    repeated(&[1, 0x30, 0x33, 0x23], &second)
+}
+
+fn main() {
+    let rounds = std::env::var("DFB_ROUNDS").map_or(60, |rounds| rounds.parse().expect("DFB_ROUNDS is a number"));
+    let mut implementations = vec![implementations::proved()];
+    implementations.extend(implementations::plain());
+    let ratios = vec![(f64::INFINITY, 0.0); implementations.len() - 1];
+    let spectra = Spectra::new();
+    let limit = sum_of_powers(4 * rounds, &spectra);
+    let mut bench = Bench { implementations, rounds, limit, ratios };
+
+    println!("limit of 7 of 7, one plain loop over 7,168 powers: {limit:.1} ns");
+    bench.heading();
+    for kind in &KINDS {
+        for processors in [1, 7] {
+            for setting in 0..3 {
+                bench.tick(kind, processors, setting, &spectra);
+            }
+        }
+    }
+    let mut r = Random::new(3);
+    bench.listing("a survey", &survey_log(&mut r));
+    bench.listing("ticks", &[4; 65536]);
+    bench.listing("112 bands", &repeated(&[1, 0x30, 0x00, 0xA0], &spec_words(&mut r, 56)));
+    bench.pack();
+
+    for (implementation, (least, greatest)) in bench.implementations[1..].iter().zip(&bench.ratios) {
+        println!("tick, proved / {}: {least:.2} to {greatest:.2}", implementation.name);
+    }
+}

@@ -1,0 +1,270 @@
+//! The stand-in for the Digital Fields Board: a safe interface to the proved library libdfb.a (include/dfb.h).
+//!
+//! Each function here calls the one of the same name there. Its answer and the later contents of every list are those of the rules for
+//! every input; a refusal changes nothing. Lists of any length may be passed: a wrong length is refused.
+//!
+//! ```
+//! let mut board = dfb::Board::reset();
+//! board.command(0x30, 0x0020)?;
+//! let mut out = [0u8; dfb::OUTPUT];
+//! let answer = board.tick(&[0; dfb::POWERS], &mut out)?;
+//! assert_eq!(answer, dfb::Tick::Reported(18));
+//! assert_eq!(board.read(0x30)?, 0x0020);
+//! assert_eq!(board.command(0x37, 0), Err(dfb::Refusal::UnknownCommand));
+//! # Ok::<(), dfb::Refusal>(())
+//! ```
+use std::fmt;
+
+/// The length of a state: registers 0x30 to 0x36, then the phase. All 0 after reset.
+pub const STATE: usize = 8;
+/// The length of the totals. All 0 after reset.
+pub const TOTALS: usize = 784;
+/// The length of a tick's powers: 7 rows of 1,024.
+pub const POWERS: usize = 7168;
+/// The least length of a tick's output.
+pub const OUTPUT: usize = 1176;
+
+/// A refusal, with its number in the rules.
+#[derive(Clone, Copy, Debug, PartialEq, Eq)]
+#[repr(u8)]
+pub enum Refusal {
+    UnknownCommand = 1,
+    WrongLength = 2,
+    UnsoundState = 3,
+    UnknownApid = 4,
+    IncompleteSet = 5,
+    NoProcessorEnabled = 6,
+    IllegalBandCode = 7,
+    SumCodeOverflow = 8,
+    UnknownRecordKind = 9,
+    TruncatedBody = 10,
+    InputTooLong = 11,
+    OutOfRange = 12,
+    MeanOverflow = 13,
+}
+
+impl Refusal {
+    /// The refusal's number.
+    pub fn number(self) -> u8 {
+        self as u8
+    }
+
+    fn of(number: u64) -> Refusal {
+        match number {
+            1 => Refusal::UnknownCommand,
+            2 => Refusal::WrongLength,
+            3 => Refusal::UnsoundState,
+            4 => Refusal::UnknownApid,
+            5 => Refusal::IncompleteSet,
+            6 => Refusal::NoProcessorEnabled,
+            7 => Refusal::IllegalBandCode,
+            8 => Refusal::SumCodeOverflow,
+            9 => Refusal::UnknownRecordKind,
+            10 => Refusal::TruncatedBody,
+            11 => Refusal::InputTooLong,
+            12 => Refusal::OutOfRange,
+            13 => Refusal::MeanOverflow,
+            _ => panic!("libdfb answered {number} above its answers, which is no refusal"),
+        }
+    }
+}
+
+impl fmt::Display for Refusal {
+    fn fmt(&self, f: &mut fmt::Formatter) -> fmt::Result {
+        write!(f, "refusal {}: {self:?}", self.number())
+    }
+}
+
+impl std::error::Error for Refusal {}
+
+/// What a tick did.
+#[derive(Clone, Copy, Debug, PartialEq, Eq)]
+pub enum Tick {
+    Idle,
+    Collected,
+    Waiting,
+    /// A report was written: so many words of three bytes.
+    Reported(usize),
+}
+
+/// The functions of libdfb.a as C declares them.
+pub mod ffi {
+    extern "C" {
+        pub fn dfb_command(state: *mut u16, state_len: usize, totals: *mut u64, totals_len: usize, id: u8, information: u16) -> u32;
+        pub fn dfb_read(state: *const u16, state_len: usize, id: u8) -> u32;
+        pub fn dfb_tick(
+            state: *mut u16,
+            state_len: usize,
+            totals: *mut u64,
+            totals_len: usize,
+            powers: *const u32,
+            powers_len: usize,
+            out: *mut u8,
+            out_len: usize,
+        ) -> u32;
+        pub fn dfb_pack(apid: u8, samples: *const i16, samples_len: usize, out: *mut u8, out_len: usize) -> u32;
+        pub fn dfb_unpack(apid: u8, bytes: *const u8, bytes_len: usize, samples: *mut i16, samples_len: usize) -> u32;
+        pub fn dfb_append(log: *mut u8, log_len: usize, used: usize, kind: u8, a: u8, b: u32) -> u64;
+        pub fn dfb_listing(log: *const u8, log_len: usize, out: *mut u8, out_len: usize) -> u64;
+        pub fn dfb_band_of(setting: u8, bin: u16) -> u16;
+        pub fn dfb_compress_band(value: u32) -> u8;
+        pub fn dfb_expand_band(code: u8) -> u64;
+        pub fn dfb_compress_sum(value: u64) -> u16;
+        pub fn dfb_expand_sum(code: u16, value: *mut u64, value_len: usize) -> u32;
+        pub fn dfb_describe_band(setting: u8, band: u8, three: *mut f32, three_len: usize) -> u32;
+    }
+}
+
+/// A board: its state and its totals, kept between the calls.
+#[derive(Clone, Debug, PartialEq, Eq)]
+pub struct Board {
+    state: [u16; STATE],
+    totals: [u64; TOTALS],
+}
+
+impl Board {
+    /// The board after reset.
+    pub fn reset() -> Board {
+        Board { state: [0; STATE], totals: [0; TOTALS] }
+    }
+
+    /// As the function `command`.
+    pub fn command(&mut self, id: u8, information: u16) -> Result<u16, Refusal> {
+        command(&mut self.state, &mut self.totals, id, information)
+    }
+
+    /// As the function `read`.
+    pub fn read(&self, id: u8) -> Result<u16, Refusal> {
+        read(&self.state, id)
+    }
+
+    /// As the function `tick`.
+    pub fn tick(&mut self, powers: &[u32], out: &mut [u8]) -> Result<Tick, Refusal> {
+        tick(&mut self.state, &mut self.totals, powers, out)
+    }
+}
+
+// Refusals start at these, above 8-bit, 16-bit and 63-bit answers.
+const REFUSED_8: u64 = 0x100;
+const REFUSED_16: u64 = 0x1_0000;
+const REFUSED_63: u64 = 1 << 63;
+// A report's number of words is added to this.
+const REPORTED: u32 = 0x2_0000;
+
+/// An answer below `refused`, or the refusal whose number is above it.
+fn answer(number: u64, refused: u64) -> Result<u64, Refusal> {
+    if number < refused {
+        Ok(number)
+    } else {
+        Err(Refusal::of(number - refused))
+    }
+}
+
+/// Sends a command: the value stored. Refusals 2, 3, 1.
+pub fn command(state: &mut [u16], totals: &mut [u64], id: u8, information: u16) -> Result<u16, Refusal> {
+    // SAFETY: each pointer is valid for its length, and no two slices overlap. So it is in each call below.
+    let number = unsafe { ffi::dfb_command(state.as_mut_ptr(), state.len(), totals.as_mut_ptr(), totals.len(), id, information) };
+    answer(number.into(), REFUSED_16).map(|value| value as u16)
+}
+
+/// Reads a register. Refusals 2, 3, 1.
+pub fn read(state: &[u16], id: u8) -> Result<u16, Refusal> {
+    // SAFETY: as in command.
+    let number = unsafe { ffi::dfb_read(state.as_ptr(), state.len(), id) };
+    answer(number.into(), REFUSED_16).map(|value| value as u16)
+}
+
+/// One tick with 7 rows of 1,024 powers; a report is written at the start of `out`. Refusals 2, 3, 13.
+pub fn tick(state: &mut [u16], totals: &mut [u64], powers: &[u32], out: &mut [u8]) -> Result<Tick, Refusal> {
+    // SAFETY: as in command.
+    let number = unsafe {
+        ffi::dfb_tick(
+            state.as_mut_ptr(),
+            state.len(),
+            totals.as_mut_ptr(),
+            totals.len(),
+            powers.as_ptr(),
+            powers.len(),
+            out.as_mut_ptr(),
+            out.len(),
+        )
+    };
+    if number >= REPORTED {
+        return Ok(Tick::Reported((number - REPORTED) as usize));
+    }
+    match answer(number.into(), REFUSED_16)? {
+        0 => Ok(Tick::Idle),
+        1 => Ok(Tick::Collected),
+        2 => Ok(Tick::Waiting),
+        other => panic!("libdfb answered {other}, which is no answer of a tick"),
+    }
+}
+
+/// Packs one waveform set: the bytes written. Refusals 4, 2.
+pub fn pack(apid: u8, samples: &[i16], out: &mut [u8]) -> Result<usize, Refusal> {
+    // SAFETY: as in command.
+    let number = unsafe { ffi::dfb_pack(apid, samples.as_ptr(), samples.len(), out.as_mut_ptr(), out.len()) };
+    answer(number.into(), REFUSED_16).map(|count| count as usize)
+}
+
+/// Unpacks one waveform set: the samples written. Refusals 4, 2, 5.
+pub fn unpack(apid: u8, bytes: &[u8], samples: &mut [i16]) -> Result<usize, Refusal> {
+    // SAFETY: as in command.
+    let number = unsafe { ffi::dfb_unpack(apid, bytes.as_ptr(), bytes.len(), samples.as_mut_ptr(), samples.len()) };
+    answer(number.into(), REFUSED_16).map(|count| count as usize)
+}
+
+/// Appends one record behind the bytes used: the new number of bytes used. `a` is the ID or the APID, `b` the 16 bits or the seconds.
+/// Refusals 9, then 1 or 4, then 2.
+pub fn append(log: &mut [u8], used: usize, kind: u8, a: u8, b: u32) -> Result<usize, Refusal> {
+    // SAFETY: as in command.
+    let number = unsafe { ffi::dfb_append(log.as_mut_ptr(), log.len(), used, kind, a, b) };
+    answer(number, REFUSED_63).map(|used| used as usize)
+}
+
+/// Lists a log: the bytes of text written. Refusal 2 where `out` is under 6 bytes for each byte of the log and 64 more (64 where the log
+/// is over 65,536 bytes).
+pub fn listing(log: &[u8], out: &mut [u8]) -> Result<usize, Refusal> {
+    // SAFETY: as in command.
+    let number = unsafe { ffi::dfb_listing(log.as_ptr(), log.len(), out.as_mut_ptr(), out.len()) };
+    answer(number, REFUSED_63).map(|count| count as usize)
+}
+
+/// The band of an FFT bin. Refusal 12.
+pub fn band_of(setting: u8, bin: u16) -> Result<u8, Refusal> {
+    // SAFETY: numbers only. So it is in each call below that has no slice.
+    let number = unsafe { ffi::dfb_band_of(setting, bin) };
+    answer(number.into(), REFUSED_8).map(|band| band as u8)
+}
+
+/// The band code of a value.
+pub fn compress_band(value: u32) -> u8 {
+    // SAFETY: as in band_of.
+    unsafe { ffi::dfb_compress_band(value) }
+}
+
+/// The value of a band code. Refusal 7.
+pub fn expand_band(code: u8) -> Result<u64, Refusal> {
+    // SAFETY: as in band_of.
+    answer(unsafe { ffi::dfb_expand_band(code) }, REFUSED_63)
+}
+
+/// The sum code of a value.
+pub fn compress_sum(value: u64) -> u16 {
+    // SAFETY: as in band_of.
+    unsafe { ffi::dfb_compress_sum(value) }
+}
+
+/// Writes the value of a sum code to `value[0]`. Refusals 8, then 2 where `value` is empty.
+pub fn expand_sum(code: u16, value: &mut [u64]) -> Result<(), Refusal> {
+    // SAFETY: as in command.
+    let number = unsafe { ffi::dfb_expand_sum(code, value.as_mut_ptr(), value.len()) };
+    answer(number.into(), REFUSED_16).map(|_| ())
+}
+
+/// Writes low edge, centre and width of a band in hertz to `three[0..3]`. Refusals 12, then 2 where `three` is shorter.
+pub fn describe_band(setting: u8, band: u8, three: &mut [f32]) -> Result<(), Refusal> {
+    // SAFETY: as in command.
+    let number = unsafe { ffi::dfb_describe_band(setting, band, three.as_mut_ptr(), three.len()) };
+    answer(number.into(), REFUSED_16).map(|_| ())
+}

@@ -1,0 +1,74 @@
+//! 01, "Numbers on both sides" and the whole case, copied by hand.
+use dfb::Refusal;
+
+#[test]
+fn registers() {
+    let write = |id, information| dfb::command(&mut [0; 8], &mut [0; dfb::TOTALS], id, information);
+    assert_eq!(write(0x30, 0x6363), Ok(0x6363));
+    assert_eq!(write(0x30, 0xFFFF), Ok(0x6363));
+    assert_eq!(write(0x30, 0xAB16), Ok(0xA316));
+    assert_eq!(write(0x30, 0x0017), Ok(0x0003));
+    assert_eq!(write(0x31, 0xFFFF), Ok(0x0032));
+}
+
+#[test]
+fn band_codes() {
+    for (value, code, expanded) in
+        [(7, 0x07, 7), (8, 0x0C, 8), (9, 0x0C, 8), (15, 0x0F, 14), (16, 0x14, 16), (4294967295, 0xEF, 3758096384)]
+    {
+        assert_eq!(dfb::compress_band(value), code);
+        assert_eq!(dfb::expand_band(code), Ok(expanded));
+    }
+    assert_eq!(dfb::expand_band(0x08), Err(Refusal::IllegalBandCode));
+    assert_eq!(dfb::expand_band(0xF4), Err(Refusal::IllegalBandCode));
+}
+
+#[test]
+fn sum_codes() {
+    assert_eq!(dfb::compress_sum(1023), 0x03FF);
+    assert_eq!(dfb::compress_sum(1024), 0x0600);
+    assert_eq!(dfb::compress_sum(u64::MAX), 0xDBFF);
+    let mut value = [1];
+    assert_eq!(dfb::expand_sum(0xFC00, &mut value), Ok(()));
+    assert_eq!(value, [0]);
+    assert_eq!(dfb::expand_sum(0xFC01, &mut value), Ok(()));
+    assert_eq!(value, [1 << 63]);
+    assert_eq!(dfb::expand_sum(0xFC02, &mut value), Err(Refusal::SumCodeOverflow));
+    assert_eq!(value, [1 << 63]);
+}
+
+#[test]
+fn bands() {
+    assert_eq!(dfb::band_of(0, 4), Ok(4));
+    assert_eq!(dfb::band_of(0, 512), Ok(32));
+    for (setting, band) in [(0, 35), (1, 63), (2, 111)] {
+        assert_eq!(dfb::band_of(setting, 1023), Ok(band));
+    }
+}
+
+/// N = 2, a one-bin band: powers 8 and 11 print 8, powers 0 and 1 print 0.
+#[test]
+fn two_spectra() {
+    for (first, second, total, code, printed) in [(8, 11, 8, 0x0C, 8), (0, 1, 0, 0x00, 0)] {
+        let (mut state, mut totals, mut out) = ([0; dfb::STATE], [0; dfb::TOTALS], [0; dfb::OUTPUT]);
+        assert_eq!(dfb::command(&mut state, &mut totals, 0x30, 0x1120), Ok(0x1120));
+        let mut powers = [0; dfb::POWERS];
+        powers[0] = first;
+        assert_eq!(dfb::tick(&mut state, &mut totals, &powers, &mut out), Ok(dfb::Tick::Collected));
+        assert_eq!(totals[0], total);
+        powers[0] = second;
+        assert_eq!(dfb::tick(&mut state, &mut totals, &powers, &mut out), Ok(dfb::Tick::Reported(18)));
+        assert_eq!(out[..3], [0x4E, 0x00, code]);
+        assert_eq!(dfb::expand_band(code), Ok(printed));
+    }
+}
+
+#[test]
+fn whole_case() {
+    let log = b"\x01\x30\x00\xE3\x02\x43\x00\x01\x02\x43\xFF\xFF\x02\x43\x80\x00\x03\x00\x00\x00\x07\x04";
+    let mut out = [0; 200];
+    let count = dfb::listing(log, &mut out).unwrap();
+    assert_eq!(out[..count], *b"DFB LOG 1\nC 30 0063\nW 43 1 -1 -32768\nS 7\nT\nEND 6\n");
+    let count = dfb::listing(b"", &mut out).unwrap();
+    assert_eq!(out[..count], *b"DFB LOG 1\nEND 0\n");
+}
