@@ -1,0 +1,131 @@
+#!/usr/bin/env python3
+"""samples.py: writes samples/*.log and, from listing_model.py, their listings samples/*.txt.
+
+day-start: the first minute of a survey. Commands set processors 1 and 4 (36 bands, N = 4, C = 8), second marks and ticks follow, each second
+has survey sets, and each report its SPEC set. The spectra are made by a small board here: a falling power law with a line at 1,600 Hz.
+bursts: the registers change to 112 bands for one processor, and Burst 1 sets stand between the survey's.
+damaged: day-start with one byte lost in the middle of a waveform set.
+"""
+import os
+import struct
+
+from listing_model import BANDS, listing, stored
+
+HERE = os.path.join(os.path.dirname(os.path.abspath(__file__)), "..", "samples")
+BINS = 1024
+
+
+def band_of(size, k):
+    """01, "Bands": the band of FFT bin k, with 4, 8 or 16 bands to the octave."""
+    if k < size:
+        return k
+    h = k.bit_length() - 1
+    s = size.bit_length() - 1
+    return size * (h - s + 1) + (k - 2**h) * size // 2**h
+
+
+def band_code(v):
+    """01, "The two codes": the least exponent at which the value fits three bits."""
+    e = 0
+    while v >> e > 7:
+        e += 1
+    return e << 3 | v >> e
+
+
+def power(processor, tick, k):
+    """A power spectrum that falls with the frequency, with a line at 1,600 Hz (bin 200) that comes and goes."""
+    base = 40_000_000 // ((k + 2) * (processor + 1))
+    line = 9_000_000 * (tick % 3) if 198 <= k <= 202 else 0
+    return base + line + (k * 7919 + tick * 104729) % 97
+
+
+class Board:
+    """The stand-in as 01 tells it: registers, a phase, and the spectra since the last report."""
+
+    def __init__(self):
+        self.registers, self.phase, self.spectra, self.log = [0] * 7, 0, [], bytearray()
+
+    def command(self, ident, information):
+        self.registers[ident - 0x30] = stored(ident - 0x30, information)
+        self.phase, self.spectra = 0, []
+        self.log += bytes([1, ident, information >> 8, information & 0xFF])
+
+    def second(self, seconds):
+        self.log += b"\x03" + struct.pack(">I", seconds)
+
+    def samples(self, apid, values):
+        for v in values:
+            self.log += bytes([2, apid]) + struct.pack(">h", v)
+
+    def tick(self, number):
+        self.log += b"\x04"
+        on = [n for n in range(7) if self.registers[n] >> 5 & 1]
+        averaged, period = 2 ** (self.registers[0] >> 8 & 15), 2 ** (self.registers[0] >> 12)
+        if not on or averaged > period:
+            return
+        if self.phase < averaged:
+            self.spectra.append([[power(n, number, k) for k in range(BINS)] if n in on else None for n in range(7)])
+        if self.phase == averaged - 1:
+            self.report(on, averaged)
+            self.spectra = []
+        self.phase = 0 if self.phase == period - 1 else self.phase + 1
+
+    def report(self, on, averaged):
+        setting = self.registers[0] >> 6 & 3
+        size, count = 4 << setting, BANDS[setting]
+        for n in on:
+            totals, widths = [0] * count, [0] * count
+            for k in range(BINS):
+                b = band_of(size, k)
+                widths[b] += 1
+                totals[b] += sum(s[n][k] for s in self.spectra)
+            codes = [band_code(t // (averaged * w)) for t, w in zip(totals, widths)]
+            for j in range(count // 2):
+                self.log += bytes([2, 0x4E, codes[2 * j + 1], codes[2 * j]])
+
+
+def survey(board, second):
+    wave = lambda i, scale: int(scale * (((second * 37 + i * 61) % 41) - 20) / 20)
+    board.samples(0x43, [wave(i, 900) for i in range(3)])
+    board.samples(0x44, [wave(i, 12000) for i in range(7)])
+    board.samples(0x45, [wave(i, 300) for i in range(3)])
+
+
+def day_start():
+    board = Board()
+    board.command(0x30, 0x3223)
+    board.command(0x33, 0x0032)
+    for second in range(8):
+        board.second(1_204_416_000 + second)
+        for t in range(8):
+            board.tick(8 * second + t)
+        survey(board, second)
+    return board
+
+
+def bursts():
+    board = Board()
+    board.command(0x30, 0x30A1)
+    for second in range(3):
+        board.second(1_204_470_000 + second)
+        for t in range(8):
+            board.tick(8 * second + t)
+        board.samples(0x46, [-1, 0, 1])
+        board.samples(0x47, [100 * second, 200, 300, -400, -500, -32768])
+        board.samples(0x48, [32767, 17, -17])
+    return board
+
+
+def main():
+    day = bytes(day_start().log)
+    cut = day.index(b"\x02\x44") + 6
+    logs = {"day-start": day, "bursts": bytes(bursts().log), "damaged": day[:cut] + day[cut + 1:]}
+    for name, log in logs.items():
+        with open(os.path.join(HERE, name + ".log"), "wb") as out:
+            out.write(log)
+        with open(os.path.join(HERE, name + ".txt"), "w", encoding="utf8") as out:
+            out.write(listing(log))
+
+
+if __name__ == "__main__":
+    main()
