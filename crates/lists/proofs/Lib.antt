@@ -3,3 +3,6 @@ pub mod Sums
 pub mod Tables
 pub mod Overwriting
 pub mod Runs
+pub mod Lowest
+pub mod Best
+pub mod Changes

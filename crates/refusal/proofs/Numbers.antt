@@ -1,23 +1,25 @@
 -- Two refusals of one number are the same refusal. Assumes nothing.
 use Prim.Native.Nat.{ℕ}
 use mathlib.Core.Path.{_≡_, refl, sym, ap, _∙_}
+use mathlib.Core.Bool.{cond}
 use mathlib.Core.List.{List, [], _∷_}
-use lib.ListN.{getD}
+use lib.Dec.{eqb}
 use Rattle.refusal.specs.Number.{numberOf}
 use Rattle.refusal.specs.declared.Refusal.{Refusal}
-use Rattle.refusal.specs.declared.Refusal.the-variants.{UnknownCommand, WrongLength, UnsoundState, UnknownApid, IncompleteSet, NoProcessorEnabled, IllegalBandCode, SumCodeOverflow, UnknownRecordKind, TruncatedBody, InputTooLong, OutOfRange, MeanOverflow}
+use Rattle.refusal.specs.declared.Refusal.the-variants.{UnknownCommand, WrongLength, UnsoundState, UnknownApid, IncompleteSet, NoProcessorEnabled, IllegalBandCode, SumCodeOverflow, UnknownRecordKind, TruncatedBody, InputTooLong, OutOfRange, MeanOverflow, TurnedAway, NothingToSend, AlreadySending, NoneSending}
 
--- each refusal stands at its number; the first also at 0, which is no number of a refusal
-by-number : List Refusal
-by-number =
-    UnknownCommand ∷ UnknownCommand ∷ WrongLength ∷ UnsoundState ∷ UnknownApid ∷ IncompleteSet ∷ NoProcessorEnabled ∷ IllegalBandCode ∷ SumCodeOverflow
-    ∷ UnknownRecordKind ∷ TruncatedBody ∷ InputTooLong ∷ OutOfRange ∷ MeanOverflow ∷ []
+all : List Refusal
+all =
+    WrongLength ∷ UnsoundState ∷ UnknownApid ∷ IncompleteSet ∷ NoProcessorEnabled ∷ IllegalBandCode ∷ SumCodeOverflow ∷ UnknownRecordKind
+    ∷ TruncatedBody ∷ InputTooLong ∷ OutOfRange ∷ MeanOverflow ∷ TurnedAway ∷ NothingToSend ∷ AlreadySending ∷ NoneSending ∷ []
 
-abbrev refusalOf : ℕ → Refusal
-refusalOf n = getD by-number n UnknownCommand
+-- the refusal of the list that has the number, and the first refusal where none has
+withNumber : ℕ → List Refusal → Refusal
+withNumber n [] = UnknownCommand
+withNumber n (r ∷ rs) = cond (eqb (numberOf r) n) r (withNumber n rs)
 
-found : (r : Refusal) → refusalOf (numberOf r) ≡ r
-unfolding by-number
+found : (r : Refusal) → withNumber (numberOf r) all ≡ r
+unfolding all withNumber
 found UnknownCommand = refl
 found WrongLength = refl
 found UnsoundState = refl
@@ -31,6 +33,10 @@ found TruncatedBody = refl
 found InputTooLong = refl
 found OutOfRange = refl
 found MeanOverflow = refl
+found TurnedAway = refl
+found NothingToSend = refl
+found AlreadySending = refl
+found NoneSending = refl
 
 pub one-number : (a b : Refusal) → numberOf a ≡ numberOf b → a ≡ b
-one-number a b e = sym (found a) ∙ ap refusalOf e ∙ found b
+one-number a b e = sym (found a) ∙ ap (λ (n : ℕ). withNumber n all) e ∙ found b

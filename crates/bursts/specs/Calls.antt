@@ -1,0 +1,74 @@
+-- 02, ticket 9: whole lists of calls on the slots, and what is proved of them from any sound state. Assumes nothing.
+use Prim.Native.Nat.{ℕ, _+_, _<_, min}
+use mathlib.Core.Path.{_≡_}
+use mathlib.Core.Bool.{Bool, true, false, cond}
+use mathlib.Core.List.{List, [], _∷_, map}
+use lib.ListN.{length}
+use lib.Dec.{leb}
+use Rattle.lists.specs.Sums.{sumTo}
+use Rattle.bursts.specs.declared.SlotState.{SlotState}
+use Rattle.bursts.specs.declared.SlotState.the-variants.{Free, Held, Sending}
+use Rattle.bursts.specs.declared.Slots.{Slots}
+use Rattle.bursts.specs.Slots.{stateOf, isFree, smaller, noSlot, sendingSlots, sound, becomes, offerOutcome, chooseOutcome, finishOutcome}
+
+pub data Call : Type 0 where
+  offer : ℕ → Call
+  choose : Call
+  finish : Call
+
+-- the slots after a call
+abbrev pub perform : Slots → Call → Slots
+perform s (offer x) = offerOutcome s x .slots
+perform s choose = chooseOutcome s .slots
+perform s finish = finishOutcome s .slots
+
+-- the slots after a list of calls, each given the slots as the call before left them
+unfoldable pub afterCalls : Slots → List Call → Slots
+afterCalls s [] = s
+afterCalls s (c ∷ cs) = afterCalls (perform s c) cs
+
+abbrev pub offers : List ℕ → List Call
+offers xs = map offer xs
+
+-- no call of the list is a finish
+abbrev pub NoFinish : List Call → Type 0
+NoFinish [] = Unit {0}
+NoFinish (offer x ∷ cs) = NoFinish cs
+NoFinish (choose ∷ cs) = NoFinish cs
+NoFinish (finish ∷ cs) = ⊥
+
+-- a sound state; every value of the type has 32 slots
+pub record Sound (s : Slots) : Type 0 where
+  pub whole : length (s .slot) ≡ 32
+  pub state : sound s ≡ true
+
+-- ---- how many criteria are at least x
+
+-- held, with a criterion of at least x
+abbrev pub heldFrom : ℕ → SlotState → Bool
+heldFrom x Free = false
+heldFrom x (Held c) = leb x c
+heldFrom x Sending = false
+
+unfoldable pub heldAtLeast : ℕ → Slots → ℕ
+heldAtLeast x s = sumTo (s .count) (λ i. cond (heldFrom x (stateOf s i)) 1 0)
+
+unfoldable pub offeredAtLeast : ℕ → List ℕ → ℕ
+offeredAtLeast x [] = 0
+offeredAtLeast x (y ∷ ys) = cond (leb x y) 1 0 + offeredAtLeast x ys
+
+-- What is proved of a sound state s.
+--
+-- The blocks held are the best. With nothing sent, after any list of offers, as many held criteria are at least x, for every x, as there are
+-- slots, or as there are such criteria among those held before and those offered, whichever is less. So the criteria held are, each as often
+-- as it occurs, the greatest of those held before and those offered. Of blocks with equal criteria the theorem does not say which are held:
+-- an offer that only equals the smallest is turned away, so that the earlier block stays, and a greater one replaces the lowest slot of the
+-- smallest.
+pub record Proved (s : Slots) : Type 0 where
+  pub stays-sound : (cs : List Call) → Sound (afterCalls s cs)
+  pub as-many : (cs : List Call) → afterCalls s cs .count ≡ s .count
+  pub sending-stays : (cs : List Call) → NoFinish cs → (i : ℕ) → i < s .count → stateOf s i ≡ Sending → stateOf (afterCalls s cs) i ≡ Sending
+  pub sending-finished : (i : ℕ) → i < s .count → stateOf s i ≡ Sending → finishOutcome s ≡ becomes s i Free
+  pub best-held : sendingSlots s ≡ 0 → (xs : List ℕ) (x : ℕ) →
+      heldAtLeast x (afterCalls s (offers xs)) ≡ min (s .count) (heldAtLeast x s + offeredAtLeast x xs)
+  pub equal-stays : (x : ℕ) → noSlot s isFree ≡ true → noSlot s (smaller x) ≡ true → perform s (offer x) ≡ s

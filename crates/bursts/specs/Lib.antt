@@ -1,0 +1,3 @@
+pub mod Slots
+pub mod Searches
+pub mod Calls

@@ -1,0 +1,125 @@
+-- 02, ticket 9 (source document 004, sections 1.2 and 2.3): burst slots, and what offer, choose and finish do. Assumes nothing.
+use Prim.Native.Nat.{ℕ}
+use mathlib.Core.Bool.{Bool, true, false, cond, _&&_, not}
+use lib.ListN.{getD, set}
+use lib.Dec.{leb, ltb}
+use Rattle.lists.specs.Sums.{allTo, sumTo}
+use Rattle.lists.specs.Lowest.{lowest}
+use Rattle.refusal.specs.Number.{numberOf}
+use Rattle.refusal.specs.Outcome.{Outcome, given, refused}
+use Rattle.bursts.specs.declared.SlotState.{SlotState}
+use Rattle.bursts.specs.declared.SlotState.the-variants.{Free, Held, Sending}
+use Rattle.bursts.specs.declared.Slots.{Slots}
+use Rattle.bursts.specs.declared.Answer.{Answer}
+use Rattle.bursts.specs.declared.Done.{Done}
+
+-- ---- the state of a slot
+
+abbrev pub stateOf : Slots → ℕ → SlotState
+stateOf s i = getD (s .slot) i (record { state = Free }) .state
+
+abbrev pub isFree : SlotState → Bool
+isFree Free = true
+isFree (Held c) = false
+isFree Sending = false
+
+abbrev pub isHeld : SlotState → Bool
+isHeld Free = false
+isHeld (Held c) = true
+isHeld Sending = false
+
+abbrev pub isSending : SlotState → Bool
+isSending Free = false
+isSending (Held c) = false
+isSending Sending = true
+
+-- held, with a criterion smaller than x
+abbrev pub smaller : ℕ → SlotState → Bool
+smaller x Free = false
+smaller x (Held c) = ltb c x
+smaller x Sending = false
+
+-- held, with a criterion greater than x
+abbrev pub greater : ℕ → SlotState → Bool
+greater x Free = false
+greater x (Held c) = ltb x c
+greater x Sending = false
+
+-- ---- slots that pass a test
+
+abbrev pub lowestSlot : Slots → (SlotState → Bool) → ℕ
+lowestSlot s test = lowest (s .count) (λ i. test (stateOf s i))
+
+abbrev pub noSlot : Slots → (SlotState → Bool) → Bool
+noSlot s test = allTo (s .count) (λ i. not (test (stateOf s i)))
+
+-- held, and no slot is held with a smaller criterion
+abbrev pub smallestHeld : Slots → SlotState → Bool
+smallestHeld s Free = false
+smallestHeld s (Held c) = noSlot s (smaller c)
+smallestHeld s Sending = false
+
+-- held, and no slot is held with a greater criterion
+abbrev pub greatestHeld : Slots → SlotState → Bool
+greatestHeld s Free = false
+greatestHeld s (Held c) = noSlot s (greater c)
+greatestHeld s Sending = false
+
+-- ---- a sound state: at most 32 slots, and at most one sending
+
+unfoldable pub sendingSlots : Slots → ℕ
+sendingSlots s = sumTo (s .count) (λ i. cond (isSending (stateOf s i)) 1 0)
+
+unfoldable pub sound : Slots → Bool
+sound s = leb (s .count) 32 && leb (sendingSlots s) 1
+
+-- ---- what a call leaves: its answer, and the slots afterwards
+
+pub record Left : Type 0 where
+  pub answer : Outcome ℕ
+  pub slots : Slots
+
+abbrev pub answerOutcome : Answer → Outcome ℕ
+answerOutcome (Answer.Slot i) = given i
+answerOutcome (Answer.Refused r) = refused (numberOf r)
+
+abbrev pub doneOutcome : Done → Left
+doneOutcome d = record { answer = answerOutcome (d .answer); slots = d .slots }
+
+-- refused: the slots are as they were
+abbrev pub refusedBy : ℕ → Slots → Left
+refusedBy n s = record { answer = refused n; slots = s }
+
+-- slot i has a new state
+abbrev pub changed : Slots → ℕ → SlotState → Slots
+changed s i state = record { slot = set (s .slot) i (record { state = state }); count = s .count }
+
+-- slot i is the answer, and has a new state
+abbrev pub becomes : Slots → ℕ → SlotState → Left
+becomes s i state = record { answer = given i; slots = changed s i state }
+
+-- ---- the three calls
+
+-- A block of criterion x takes the lowest free slot. If none is free it takes the held slot with the smallest criterion, the lowest on a
+-- tie, but only where that criterion is smaller than x.
+unfoldable pub offerOutcome : Slots → ℕ → Left
+offerOutcome s x =
+    cond (not (sound s)) (refusedBy 3 s)
+    (cond (not (noSlot s isFree)) (becomes s (lowestSlot s isFree) (Held x))
+    (cond (not (noSlot s (smaller x))) (becomes s (lowestSlot s (smallestHeld s)) (Held x))
+    (refusedBy 25 s)))
+
+-- The held slot with the greatest criterion, the lowest on a tie, begins to send, if none is sending.
+unfoldable pub chooseOutcome : Slots → Left
+chooseOutcome s =
+    cond (not (sound s)) (refusedBy 3 s)
+    (cond (not (noSlot s isSending)) (refusedBy 27 s)
+    (cond (noSlot s isHeld) (refusedBy 26 s)
+    (becomes s (lowestSlot s (greatestHeld s)) Sending)))
+
+-- The sending slot becomes free.
+unfoldable pub finishOutcome : Slots → Left
+finishOutcome s =
+    cond (not (sound s)) (refusedBy 3 s)
+    (cond (noSlot s isSending) (refusedBy 28 s)
+    (becomes s (lowestSlot s isSending) Free))
