@@ -1,5 +1,5 @@
 #!/usr/bin/env python3
-# Writes crates/bursts_cases: the calls of the program from the list of cases, its expected output from a model of its own (02, ticket 9).
+# Writes crates/bursts_cases: the calls of the program from the list of cases, its expected output from a model of its own (02, tickets 9 and 10).
 # A call is a letter: a digit is an offer of that criterion, ! an offer of the greatest criterion, c choose, f finish.
 import os
 here = os.path.dirname(os.path.abspath(__file__))
@@ -30,6 +30,10 @@ def offer(slots, x):
     return min(worse)[1] if worse else -25
 
 
+def looked_at(slots):
+    return slots.index(None) + 1 if None in slots else len(slots)
+
+
 def call(slots, op):
     """The answer, and the slots afterwards: None is free, "S" sending, a number held."""
     if len(slots) > 32 or slots.count("S") > 1:
@@ -53,8 +57,10 @@ text, calls = "", ""
 for comment, count, sending, ops in cases:
     slots = ["S"] * sending + [None] * (count - sending)
     for op in ops:
-        answer, slots = call(slots, op)
-        text += "%s %s%02d %s\n" % (op, "r" if answer < 0 else "s", abs(answer), "".join(map(shown, slots[:32])))
+        answer, after = call(slots, op)
+        looked = "" if op in "cf" or answer == -3 else "n%02d" % looked_at(slots)
+        slots = after
+        text += "%s %s%02d%s %s\n" % (op, "r" if answer < 0 else "s", abs(answer), looked, "".join(map(shown, slots[:32])))
     text += "\n"
     calls += '    // %s\n    run(%d, %d, b"%s");\n' % (comment, count, sending, ops)
 main = os.path.join(crate, "src", "main.rt")

@@ -8,7 +8,7 @@ use Rattle.lists.proofs.Choices.{cond-at}
 use Rattle.bursts.specs.declared.Slots.{Slots}
 use Rattle.bursts.specs.declared.SlotState.the-variants.{Free, Held, Sending}
 use Rattle.lists.specs.Lowest.{lowest}
-use Rattle.bursts.specs.Slots.{stateOf, isFree, isHeld, isSending, smaller, lowestSlot, noSlot, smallestHeld, greatestHeld, sound, Left, changed, offerOutcome, chooseOutcome, finishOutcome}
+use Rattle.bursts.specs.Slots.{stateOf, isFree, isHeld, isSending, smaller, lowestSlot, noSlot, smallestHeld, greatestHeld, sound, Left, OfferLeft, changed, offerOutcome, chooseOutcome, finishOutcome}
 use Rattle.lists.proofs.Lowest.{lowest-test, none-passes}
 use Rattle.bursts.proofs.Finding.{smallest-some, greatest-none}
 
@@ -24,15 +24,15 @@ module _ (s : Slots) (P : Slots → Type 0) where
       sound s ≡ true → P (offerOutcome s x .slots)
   unfolding offerOutcome
   offer-cases x free replaced away ok =
-      cond-at (λ (r : Left). P (r .slots)) (not (sound s)) (λ e. absurd (true≢false (sym ok ∙ not-true _ e)))
+      cond-at (λ (r : OfferLeft). P (r .slots)) (not (sound s)) (λ e. absurd (true≢false (sym ok ∙ not-true _ e)))
       (λ e.
-      cond-at (λ (r : Left). P (r .slots)) (not (noSlot s isFree))
+      cond-at (λ (r : OfferLeft). P (r .slots)) (not (noSlot s isFree))
       (λ f.
       let test : ℕ → Bool = λ i. isFree (stateOf s i) in
       let l = some-passes (s .count) test (noSlot s isFree) (none-passes (s .count) test) (not-true _ f) in
       free (lowestSlot s isFree) l (lowest-test (s .count) test l))
       (λ f.
-      cond-at (λ (r : Left). P (r .slots)) (not (noSlot s (smaller x)))
+      cond-at (λ (r : OfferLeft). P (r .slots)) (not (noSlot s (smaller x)))
       (λ g.
       let l = smallest-some s x (not-true _ g) in
       replaced (not-false _ f) (not-true _ g) (lowestSlot s (smallestHeld s)) l (lowest-test (s .count) (λ i. smallestHeld s (stateOf s i)) l))

@@ -5,3 +5,4 @@ pub mod Cases
 pub mod Totals
 pub mod Kept
 pub mod Claims
+pub mod Looking

@@ -8,7 +8,7 @@ use lib.Dec.{ltb}
 use Rattle.lists.proofs.Choices.{by-cases, both, cond-true, cond-false}
 use Rattle.bursts.specs.declared.Slots.{Slots}
 use Rattle.bursts.specs.declared.SlotState.the-variants.{Free, Held, Sending}
-use Rattle.bursts.specs.Slots.{stateOf, isFree, isHeld, isSending, smaller, lowestSlot, noSlot, smallestHeld, greatestHeld, sound, Left, refusedBy, becomes, offerOutcome, chooseOutcome, finishOutcome}
+use Rattle.bursts.specs.Slots.{stateOf, isFree, isHeld, isSending, smaller, lowestSlot, noSlot, smallestHeld, greatestHeld, sound, Left, refusedBy, becomes, lookedAt, OfferLeft, refusedAfter, refusedAlone, taken, offerOutcome, chooseOutcome, finishOutcome}
 use Rattle.bursts.specs.Searches.{placeFor}
 use Rattle.lists.proofs.Lowest.{none-passes}
 use Rattle.bursts.proofs.Finding.{smallest-some, greatest-none}
@@ -23,11 +23,11 @@ some-below t l n e f = not-false (ltb l n) (sym e ∙ f)
 
 pub offer-by-place : (s : Slots) (x : ℕ) →
     offerOutcome s x
-    ≡ cond (not (sound s)) (refusedBy 3 s)
-    (cond (ltb (placeFor s x) (s .count)) (becomes s (placeFor s x) (Held x)) (refusedBy 25 s))
+    ≡ cond (not (sound s)) (record { answer = refusedAlone 3; slots = s })
+    (cond (ltb (placeFor s x) (s .count)) (taken s (placeFor s x) (lookedAt s) x) (record { answer = refusedAfter 25 (lookedAt s); slots = s }))
 unfolding offerOutcome placeFor
 offer-by-place s x =
-    ap (λ (r : Left). cond (not (sound s)) (refusedBy 3 s) r)
+    ap (λ (r : OfferLeft). cond (not (sound s)) (record { answer = refusedAlone 3; slots = s }) r)
     (by-cases (noSlot s isFree)
     (λ e.
     by-cases (noSlot s (smaller x))

@@ -1,3 +1,4 @@
 pub mod Slots
 pub mod Searches
 pub mod Calls
+pub mod Looked

@@ -1,17 +1,20 @@
--- 02, ticket 9 (source document 004, sections 1.2 and 2.3): burst slots, and what offer, choose and finish do. Assumes nothing.
-use Prim.Native.Nat.{ℕ}
+-- 02, tickets 9 and 10 (source document 004, sections 1.2 and 2.3): burst slots, and what offer, choose and finish do. Assumes nothing.
+use Prim.Native.Nat.{ℕ, _+_}
 use mathlib.Core.Bool.{Bool, true, false, cond, _&&_, not}
 use lib.ListN.{getD, set}
 use lib.Dec.{leb, ltb}
 use Rattle.lists.specs.Sums.{allTo, sumTo}
 use Rattle.lists.specs.Lowest.{lowest}
 use Rattle.refusal.specs.Number.{numberOf}
+use Rattle.refusal.specs.declared.Refusal.{Refusal}
 use Rattle.refusal.specs.Outcome.{Outcome, given, refused}
 use Rattle.bursts.specs.declared.SlotState.{SlotState}
 use Rattle.bursts.specs.declared.SlotState.the-variants.{Free, Held, Sending}
 use Rattle.bursts.specs.declared.Slots.{Slots}
 use Rattle.bursts.specs.declared.Answer.{Answer}
 use Rattle.bursts.specs.declared.Done.{Done}
+use Rattle.bursts.specs.declared.OfferAnswer.{OfferAnswer}
+use Rattle.bursts.specs.declared.Offered.{Offered}
 
 -- ---- the state of a slot
 
@@ -98,16 +101,41 @@ changed s i state = record { slot = set (s .slot) i (record { state = state }); 
 abbrev pub becomes : Slots → ℕ → SlotState → Left
 becomes s i state = record { answer = given i; slots = changed s i state }
 
+-- what an offer answers: a slot and the number of slots looked at, a refusal with that number, or a refusal alone
+pub data OfferAnswered : Type 0 where
+  takes : ℕ → ℕ → OfferAnswered
+  refusedAfter : ℕ → ℕ → OfferAnswered
+  refusedAlone : ℕ → OfferAnswered
+
+pub record OfferLeft : Type 0 where
+  pub answer : OfferAnswered
+  pub slots : Slots
+
+abbrev pub offerAnswerOutcome : OfferAnswer → OfferAnswered
+offerAnswerOutcome (OfferAnswer.Slot i looked) = takes i looked
+offerAnswerOutcome (OfferAnswer.TurnedAway looked) = refusedAfter (numberOf Refusal.TurnedAway) looked
+offerAnswerOutcome (OfferAnswer.Refused r) = refusedAlone (numberOf r)
+
+abbrev pub offeredOutcome : Offered → OfferLeft
+offeredOutcome r = record { answer = offerAnswerOutcome (r .answer); slots = r .slots }
+
+abbrev pub taken : Slots → ℕ → ℕ → ℕ → OfferLeft
+taken s i looked x = record { answer = takes i looked; slots = changed s i (Held x) }
+
 -- ---- the three calls
+
+-- the number of slots that an offer looks at: up to and including the first free one, or all of them
+unfoldable pub lookedAt : Slots → ℕ
+lookedAt s = cond (noSlot s isFree) (s .count) (lowestSlot s isFree + 1)
 
 -- A block of criterion x takes the lowest free slot. If none is free it takes the held slot with the smallest criterion, the lowest on a
 -- tie, but only where that criterion is smaller than x.
-unfoldable pub offerOutcome : Slots → ℕ → Left
+unfoldable pub offerOutcome : Slots → ℕ → OfferLeft
 offerOutcome s x =
-    cond (not (sound s)) (refusedBy 3 s)
-    (cond (not (noSlot s isFree)) (becomes s (lowestSlot s isFree) (Held x))
-    (cond (not (noSlot s (smaller x))) (becomes s (lowestSlot s (smallestHeld s)) (Held x))
-    (refusedBy 25 s)))
+    cond (not (sound s)) (record { answer = refusedAlone 3; slots = s })
+    (cond (not (noSlot s isFree)) (taken s (lowestSlot s isFree) (lookedAt s) x)
+    (cond (not (noSlot s (smaller x))) (taken s (lowestSlot s (smallestHeld s)) (lookedAt s) x)
+    (record { answer = refusedAfter 25 (lookedAt s); slots = s })))
 
 -- The held slot with the greatest criterion, the lowest on a tie, begins to send, if none is sending.
 unfoldable pub chooseOutcome : Slots → Left

@@ -1,7 +1,7 @@
-// Burst slots (02, ticket 9; source document 004, sections 1.2 and 2.3): blocks are held with a criterion until one is sent.
+// Burst slots (02, tickets 9 and 10; source document 004, sections 1.2 and 2.3): blocks are held with a criterion until one is sent.
 ghost use mathlib.Core.Path.{_≡_};
 ghost use Prim.Native.Nat.{_≤_, _<_};
-ghost use Rattle.bursts.specs.Slots.{lowestSlot, isSending, greatestHeld, sendingSlots, sound, changed, doneOutcome, offerOutcome, chooseOutcome, finishOutcome};
+ghost use Rattle.bursts.specs.Slots.{lowestSlot, isSending, greatestHeld, sendingSlots, sound, changed, lookedAt, doneOutcome, offeredOutcome, offerOutcome, chooseOutcome, finishOutcome};
 ghost use Rattle.bursts.specs.Searches.{placeFor};
 use refusal::Refusal;
 
@@ -35,6 +35,26 @@ pub enum Answer {
 pub struct Done {
     pub answer: Answer,
     pub slots: Slots,
+}
+
+// What an offer answers: the slot that takes the block, with the number of slots looked at; turned away (25), with that number; or another
+// refusal.
+pub enum OfferAnswer {
+    Slot { slot: usize, looked: usize },
+    TurnedAway { looked: usize },
+    Refused(Refusal),
+}
+
+// What an offer leaves: its answer, and the slots afterwards.
+pub struct Offered {
+    pub answer: OfferAnswer,
+    pub slots: Slots,
+}
+
+// What the search for an offer finds, and how many slots it looked at.
+struct Found {
+    place: usize,
+    looked: usize,
 }
 
 // How many slots are sending.
@@ -82,20 +102,25 @@ fn sending_slot(slots: Slots) -> usize
     i
 }
 
-// The slot that takes an offered block; the number of slots if the block is turned away.
-fn place_for(slots: Slots, criterion: u32) -> usize
+// The slot that takes an offered block, or the number of slots if the block is turned away.
+fn search(slots: Slots, criterion: u32) -> Found
     requires { ⌜ slots .count ≤ 32 ⌝ }
-    ensures { λ r. ⌜ r ≡ placeFor slots criterion ⌝ }
+    ensures { λ r. ⌜ (r .place ≡ placeFor slots criterion) × (r .looked ≡ lookedAt slots) ⌝ }
 {
     let mut place = slots.count;
     let mut least = criterion;
-    let mut i = 0;
-    while i < slots.count {
+    let mut looked = 0;
+    while looked < slots.count {
+        let i = looked;
         let slot = slots.slot[i];
         let state = slot.state;
+        looked += 1;
         match state {
             SlotState::Free => {
-                return i;
+                return Found {
+                    place: i,
+                    looked: looked,
+                };
             }
             SlotState::Held(held) => {
                 if held < least {
@@ -105,9 +130,11 @@ fn place_for(slots: Slots, criterion: u32) -> usize
             }
             SlotState::Sending => {}
         }
-        i += 1;
     }
-    place
+    Found {
+        place: place,
+        looked: looked,
+    }
 }
 
 // The held slot with the greatest criterion, the lowest on a tie; the number of slots if none is held.
@@ -164,17 +191,32 @@ fn take(slots: Slots, place: usize, state: SlotState) -> Done
 }
 
 // A block is offered. Refusals in the order 3, 25.
-pub fn offer(slots: Slots, criterion: u32) -> Done
-    ensures { λ r. ⌜ doneOutcome r ≡ offerOutcome slots criterion ⌝ }
+pub fn offer(slots: Slots, criterion: u32) -> Offered
+    ensures { λ r. ⌜ offeredOutcome r ≡ offerOutcome slots criterion ⌝ }
 {
     if !is_sound(slots) {
-        return refuse(slots, Refusal::UnsoundState);
+        return Offered {
+            answer: OfferAnswer::Refused(Refusal::UnsoundState),
+            slots: slots,
+        };
     }
-    let place = place_for(slots, criterion);
+    let found = search(slots, criterion);
+    let place = found.place;
+    let looked = found.looked;
     if place < slots.count {
-        take(slots, place, SlotState::Held(criterion))
+        let after = change(slots, place, SlotState::Held(criterion));
+        Offered {
+            answer: OfferAnswer::Slot {
+                slot: place,
+                looked: looked,
+            },
+            slots: after,
+        }
     } else {
-        refuse(slots, Refusal::TurnedAway)
+        Offered {
+            answer: OfferAnswer::TurnedAway { looked: looked },
+            slots: slots,
+        }
     }
 }
 

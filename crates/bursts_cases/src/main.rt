@@ -1,10 +1,11 @@
-// Calls on burst slots, one case for each rule of 02, ticket 9. tools/burst_cases.py writes the cases in main, and the expected output from
-// a model of its own. A line is the call, its answer (s with a slot, r with a refusal) and the slots: free ., sending S, held with a digit or *.
+// Calls on burst slots, one case for each rule of 02, tickets 9 and 10. tools/burst_cases.py writes the cases in main, and the expected output from
+// a model of its own. A line is the call, its answer (s with a slot, r with a refusal, n with the slots that an offer looked at) and the slots: free ., sending S, held with a digit or *.
 use bursts::Answer;
-use bursts::Done;
+use bursts::OfferAnswer;
 use bursts::Slot;
 use bursts::SlotState;
 use bursts::Slots;
+use refusal::Refusal;
 
 fn put(byte: u8) {
     let text = [byte];
@@ -15,19 +16,31 @@ fn digit(n: usize) -> u8 {
     if n < 10 { b'0' + n as u8 } else { b'*' }
 }
 
+fn show_number(letter: u8, number: usize) {
+    put(letter);
+    put(digit(number / 10));
+    put(digit(number % 10));
+}
+
 fn show_answer(answer: Answer) {
     match answer {
-        Answer::Slot(slot) => {
-            put(b's');
-            put(digit(slot / 10));
-            put(digit(slot % 10));
+        Answer::Slot(slot) => show_number(b's', slot),
+        Answer::Refused(refusal) => show_number(b'r', refusal::number(refusal) as usize),
+    }
+}
+
+// The slot or the refusal, and the number of slots looked at.
+fn show_offer_answer(answer: OfferAnswer) {
+    match answer {
+        OfferAnswer::Slot { slot, looked } => {
+            show_number(b's', slot);
+            show_number(b'n', looked);
         }
-        Answer::Refused(refusal) => {
-            let number = refusal::number(refusal) as usize;
-            put(b'r');
-            put(digit(number / 10));
-            put(digit(number % 10));
+        OfferAnswer::TurnedAway { looked } => {
+            show_number(b'r', refusal::number(Refusal::TurnedAway) as usize);
+            show_number(b'n', looked);
         }
+        OfferAnswer::Refused(refusal) => show_number(b'r', refusal::number(refusal) as usize),
     }
 }
 
@@ -50,30 +63,43 @@ fn show_slots(slots: Slots) {
     put(b'\n');
 }
 
-// A digit is an offer, ! an offer of the greatest criterion, c choose, f finish.
-fn call(slots: Slots, op: u8) -> Done {
-    if op == b'c' {
-        return bursts::choose(slots);
-    }
-    if op == b'f' {
-        return bursts::finish(slots);
-    }
-    if op < b'0' {
-        return bursts::offer(slots, 0xFFFF_FFFF);
-    }
-    bursts::offer(slots, (op - b'0') as u32)
+fn leave(answer: Answer, slots: Slots) -> Slots {
+    show_answer(answer);
+    put(b' ');
+    show_slots(slots);
+    slots
 }
 
-fn step(slots: Slots, op: u8) -> Slots {
-    let done = call(slots, op);
+fn offer(slots: Slots, criterion: u32) -> Slots {
+    let done = bursts::offer(slots, criterion);
     let answer = done.answer;
     let after = done.slots;
-    put(op);
-    put(b' ');
-    show_answer(answer);
+    show_offer_answer(answer);
     put(b' ');
     show_slots(after);
     after
+}
+
+// A digit is an offer, ! an offer of the greatest criterion, c choose, f finish.
+fn step(slots: Slots, op: u8) -> Slots {
+    put(op);
+    put(b' ');
+    if op == b'c' {
+        let done = bursts::choose(slots);
+        let answer = done.answer;
+        let after = done.slots;
+        return leave(answer, after);
+    }
+    if op == b'f' {
+        let done = bursts::finish(slots);
+        let answer = done.answer;
+        let after = done.slots;
+        return leave(answer, after);
+    }
+    if op < b'0' {
+        return offer(slots, 0xFFFF_FFFF);
+    }
+    offer(slots, (op - b'0') as u32)
 }
 
 // Slots of which the first are sending: none, one or two.

@@ -50,3 +50,9 @@ none-passes n test =
     by-cases (ltb l n)
     (λ e. allTo-false (λ i. not (test i)) n l (ltb-true l n e) (ap not (lowest-test n test (ltb-true l n e))) ∙ sym (ap not e))
     (λ e. allTo-of n (λ i. not (test i)) (λ i h. ap not (lowest-before n test i (omega (arith, ltb-false l n e)))) ∙ sym (ap not e))
+
+pub lowest-ext : (n : ℕ) (f g : ℕ → Bool) → ((j : ℕ) → j < n → f j ≡ g j) → lowest n f ≡ lowest n g
+unfolding lowest
+lowest-ext zero f g h = refl
+lowest-ext (suc n) f g h =
+    rw (h 0 (omega arith), lowest-ext n (λ i. f (suc i)) (λ i. g (suc i)) (λ j l. h (suc j) (omega arith)))
