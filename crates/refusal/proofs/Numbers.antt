@@ -6,12 +6,12 @@ use mathlib.Core.List.{List, [], _∷_}
 use lib.Dec.{eqb}
 use Rattle.refusal.specs.Number.{numberOf}
 use Rattle.refusal.specs.declared.Refusal.{Refusal}
-use Rattle.refusal.specs.declared.Refusal.the-variants.{UnknownCommand, WrongLength, UnsoundState, UnknownApid, IncompleteSet, NoProcessorEnabled, IllegalBandCode, SumCodeOverflow, UnknownRecordKind, TruncatedBody, InputTooLong, OutOfRange, MeanOverflow, TurnedAway, NothingToSend, AlreadySending, NoneSending}
+use Rattle.refusal.specs.declared.Refusal.the-variants.{UnknownCommand, WrongLength, UnsoundState, UnknownApid, IncompleteSet, NoProcessorEnabled, IllegalBandCode, SumCodeOverflow, UnknownRecordKind, TruncatedBody, InputTooLong, OutOfRange, MeanOverflow, TurnedAway, NothingToSend, AlreadySending, NoneSending, ZeroLimit}
 
 all : List Refusal
 all =
     WrongLength ∷ UnsoundState ∷ UnknownApid ∷ IncompleteSet ∷ NoProcessorEnabled ∷ IllegalBandCode ∷ SumCodeOverflow ∷ UnknownRecordKind
-    ∷ TruncatedBody ∷ InputTooLong ∷ OutOfRange ∷ MeanOverflow ∷ TurnedAway ∷ NothingToSend ∷ AlreadySending ∷ NoneSending ∷ []
+    ∷ TruncatedBody ∷ InputTooLong ∷ OutOfRange ∷ MeanOverflow ∷ TurnedAway ∷ NothingToSend ∷ AlreadySending ∷ NoneSending ∷ ZeroLimit ∷ []
 
 -- the refusal of the list that has the number, and the first refusal where none has
 withNumber : ℕ → List Refusal → Refusal
@@ -37,6 +37,7 @@ found TurnedAway = refl
 found NothingToSend = refl
 found AlreadySending = refl
 found NoneSending = refl
+found ZeroLimit = refl
 
 pub one-number : (a b : Refusal) → numberOf a ≡ numberOf b → a ≡ b
 one-number a b e = sym (found a) ∙ ap (λ (n : ℕ). withNumber n all) e ∙ found b

@@ -1,0 +1,4 @@
+pub mod Start
+pub mod Growth
+pub mod Claims
+pub mod Rules
