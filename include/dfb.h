@@ -72,6 +72,23 @@ uint32_t dfb_expand_sum(uint16_t code, uint64_t *value, size_t value_len);
 /* 0 with low edge, centre and width of a band in hertz in three[0..3], or 0x10000 + refusal (12, then 2 where three_len is under 3). */
 uint32_t dfb_describe_band(uint8_t setting, uint8_t band, float *three, size_t three_len);
 
+/* Burst slots: status[i] is 0 for free, 1 for held, 2 for sending, and criteria[i] the criterion of a held slot. The criterion of a free or
+ * sending slot is ignored, and an accepted call leaves it 0; a refusal changes nothing. Refusals: 2 for lists of different lengths, 3 for
+ * more than 32 slots, a status over 2 or two sending, then those named below.
+ * An offer answers the slot that takes the block in bits 15:0 and the number of slots looked at in bits 31:20, or 0x10000 + refusal; a block
+ * that is turned away is 0x10000 + 25 + 2^20 * the number of slots looked at. */
+uint32_t dfb_burst_offer(uint8_t *status, size_t status_len, uint32_t *criteria, size_t criteria_len, uint32_t criterion);
+
+/* The slot of the block to send next, or 0x10000 + refusal (27, then 26). */
+uint32_t dfb_burst_choose(uint8_t *status, size_t status_len, uint32_t *criteria, size_t criteria_len);
+
+/* The slot that was sent and is free, or 0x10000 + refusal (28). */
+uint32_t dfb_burst_finish(uint8_t *status, size_t status_len, uint32_t *criteria, size_t criteria_len);
+
+/* The interval of Burst 1 blocks to send next, from criteria with the oldest first: the first block in bits 15:0 and the last in bits 31:16,
+ * or 2^63 + refusal (2 for over 16,000 criteria, then 29, then 26). */
+uint64_t dfb_choose_interval(const uint32_t *index, size_t index_len, uint32_t bonus, uint32_t limit);
+
 #ifdef __cplusplus
 }
 #endif

@@ -182,6 +182,14 @@ fn sum_of_powers(rounds: usize, spectra: &Spectra) -> f64 {
     best
 }
 
+/// Nanoseconds of an interval that grows over a whole index of 16,000 criteria.
+fn interval(rounds: usize) -> f64 {
+    let index: Vec<u32> = (0..16_000).map(|i| i * 7919 % 1013).collect();
+    assert_eq!(dfb::choose_interval(&index, u32::MAX, u32::MAX), Ok((0, 15_999)));
+    let chosen = || dfb::choose_interval(black_box(&index), u32::MAX, u32::MAX).map_or(0, |(first, last)| (first + last) as u64);
+    (0..rounds).map(|_| nanoseconds(1, chosen)).fold(f64::INFINITY, f64::min)
+}
+
 // ---- logs of at most 65,536 bytes ----
 
 /// Repeats a part behind a head while it fits.
@@ -234,6 +242,7 @@ fn main() {
     bench.listing("ticks", &[4; 65536]);
     bench.listing("112 bands", &repeated(&[1, 0x30, 0x00, 0xA0], &spec_words(&mut r, 56)));
     bench.pack();
+    println!("interval of 16,000 criteria: {:.1} ns", interval(rounds));
 
     for (implementation, (least, greatest)) in bench.implementations[1..].iter().zip(&bench.ratios) {
         println!("tick, proved / {}: {least:.2} to {greatest:.2}", implementation.name);

@@ -41,6 +41,11 @@ pub enum Refusal {
     InputTooLong = 11,
     OutOfRange = 12,
     MeanOverflow = 13,
+    TurnedAway = 25,
+    NothingToSend = 26,
+    AlreadySending = 27,
+    NoneSending = 28,
+    ZeroLimit = 29,
 }
 
 impl Refusal {
@@ -64,6 +69,11 @@ impl Refusal {
             11 => Refusal::InputTooLong,
             12 => Refusal::OutOfRange,
             13 => Refusal::MeanOverflow,
+            25 => Refusal::TurnedAway,
+            26 => Refusal::NothingToSend,
+            27 => Refusal::AlreadySending,
+            28 => Refusal::NoneSending,
+            29 => Refusal::ZeroLimit,
             _ => panic!("libdfb answered {number} above its answers, which is no refusal"),
         }
     }
@@ -85,6 +95,19 @@ pub enum Tick {
     Waiting,
     /// A report was written: so many words of three bytes.
     Reported(usize),
+}
+
+/// What an offer to the burst slots did, and how many slots it looked at.
+#[derive(Clone, Copy, Debug, PartialEq, Eq)]
+pub enum Offer {
+    Taken {
+        slot: usize,
+        looked: usize,
+    },
+    /// Refusal 25.
+    TurnedAway {
+        looked: usize,
+    },
 }
 
 /// The functions of libdfb.a as C declares them.
@@ -112,6 +135,10 @@ pub mod ffi {
         pub fn dfb_compress_sum(value: u64) -> u16;
         pub fn dfb_expand_sum(code: u16, value: *mut u64, value_len: usize) -> u32;
         pub fn dfb_describe_band(setting: u8, band: u8, three: *mut f32, three_len: usize) -> u32;
+        pub fn dfb_burst_offer(status: *mut u8, status_len: usize, criteria: *mut u32, criteria_len: usize, criterion: u32) -> u32;
+        pub fn dfb_burst_choose(status: *mut u8, status_len: usize, criteria: *mut u32, criteria_len: usize) -> u32;
+        pub fn dfb_burst_finish(status: *mut u8, status_len: usize, criteria: *mut u32, criteria_len: usize) -> u32;
+        pub fn dfb_choose_interval(index: *const u32, index_len: usize, bonus: u32, limit: u32) -> u64;
     }
 }
 
@@ -267,4 +294,37 @@ pub fn describe_band(setting: u8, band: u8, three: &mut [f32]) -> Result<(), Ref
     // SAFETY: as in command.
     let number = unsafe { ffi::dfb_describe_band(setting, band, three.as_mut_ptr(), three.len()) };
     answer(number.into(), REFUSED_16).map(|_| ())
+}
+
+/// Offers a block to the burst slots (status 0 free, 1 held, 2 sending). Refusals 2, 3; a block that is turned away is an `Offer` too.
+pub fn burst_offer(status: &mut [u8], criteria: &mut [u32], criterion: u32) -> Result<Offer, Refusal> {
+    // SAFETY: as in command.
+    let number = unsafe { ffi::dfb_burst_offer(status.as_mut_ptr(), status.len(), criteria.as_mut_ptr(), criteria.len(), criterion) };
+    let (low, looked) = (u64::from(number & 0xF_FFFF), (number >> 20) as usize);
+    match answer(low, REFUSED_16) {
+        Ok(slot) => Ok(Offer::Taken { slot: slot as usize, looked }),
+        Err(Refusal::TurnedAway) => Ok(Offer::TurnedAway { looked }),
+        Err(refusal) => Err(refusal),
+    }
+}
+
+/// Chooses the burst slot to send next. Refusals 2, 3, 27, 26.
+pub fn burst_choose(status: &mut [u8], criteria: &mut [u32]) -> Result<usize, Refusal> {
+    // SAFETY: as in command.
+    let number = unsafe { ffi::dfb_burst_choose(status.as_mut_ptr(), status.len(), criteria.as_mut_ptr(), criteria.len()) };
+    answer(number.into(), REFUSED_16).map(|slot| slot as usize)
+}
+
+/// Frees the burst slot that was sending. Refusals 2, 3, 28.
+pub fn burst_finish(status: &mut [u8], criteria: &mut [u32]) -> Result<usize, Refusal> {
+    // SAFETY: as in command.
+    let number = unsafe { ffi::dfb_burst_finish(status.as_mut_ptr(), status.len(), criteria.as_mut_ptr(), criteria.len()) };
+    answer(number.into(), REFUSED_16).map(|slot| slot as usize)
+}
+
+/// First and last block of the Burst 1 interval to send. Refusals 2, 29, 26.
+pub fn choose_interval(index: &[u32], bonus: u32, limit: u32) -> Result<(usize, usize), Refusal> {
+    // SAFETY: as in command.
+    let number = unsafe { ffi::dfb_choose_interval(index.as_ptr(), index.len(), bonus, limit) };
+    answer(number, REFUSED_63).map(|ends| ((ends & 0xFFFF) as usize, (ends >> 16) as usize))
 }

@@ -3,3 +3,4 @@ pub mod State
 pub mod Values
 pub mod Calls
 pub mod Theorems
+pub mod Bursts

@@ -3,3 +3,4 @@ pub mod Numbers
 pub mod State
 pub mod Calls
 pub mod Values
+pub mod Bursts

@@ -18,6 +18,9 @@ ghost use Rattle.dfb.specs.Numbers.{above8, above16, above63, outcomeNum
 ghost use Rattle.dfb.specs.State.{stateOf, stateWords};
 ghost use Rattle.dfb.specs.Calls.{CommandCall, commandCall, readCall, TickCall, tickCall};
 ghost use Rattle.dfb.specs.Values.{recordOf, isWide, wideRefusal, appendKind, sumWritten, bandWritten};
+
+mod burst_calls;
+
 use bands::BandDescription;
 use bands::BandIndex;
 use codes::BandValue;

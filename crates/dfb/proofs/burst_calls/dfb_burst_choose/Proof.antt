@@ -1,0 +1,89 @@
+-- `dfb::burst_calls::dfb_burst_choose` meets its contract: the tests pick the case of the rule. Assumes nothing.
+use borrow.Author.Needs.{needs}
+use mathlib.Core.Path.{_≡_, sym, ap, _∙_, subst}
+use mathlib.Core.Bool.{true, false}
+use Prim.Native.Nat.{ℕ}
+use mathlib.Core.List.{List}
+use lib.ListN.{length}
+use native.Mathlib.Omega.{arith}
+use borrow.Author.Tests.{not-true, not-false}
+use Rattle.bursts.specs.declared.Slots.{Slots}
+use Rattle.bursts.specs.Slots.{Left, chooseOutcome}
+use Rattle.dfb.specs.Bursts.{areSlots, slotsOf, unchanged, doneCall, burstChoose}
+use Rattle.dfb.proofs.Bursts.{on-other, on-unsound, on-slots, slots-few, SmallDone, choose-small}
+use Rattle.dfb.proofs.burst_calls.dfb_burst_choose.Statement.{statement}
+use Rattle.dfb.proofs.burst_calls.dfb_burst_choose.Tie as tie
+
+above-16-requires : tie.Need-above-16-requires
+above-16-requires c κs = search needs
+
+returns : tie.Need-returns
+unfolding burstChoose
+returns c =
+    let a = c .before .before .before .before .args in
+    ap (λ (n : ℕ). unchanged n (a .status .now) (a .criteria .now)) (c .above-16 .ensures)
+    ∙ on-other (a .status .now) (a .criteria .now) _ (λ e. c .before .if1 .taken (omega (arith, e)))
+
+are-slots-requires : tie.Need-are-slots-requires
+are-slots-requires c κs = search needs
+
+above-16-requires-2 : tie.Need-above-16-requires-2
+above-16-requires-2 c κs = search needs
+
+same-length : tie.Need-same-length
+same-length c = search needs
+
+returns-2 : tie.Need-returns-2
+unfolding burstChoose
+returns-2 c =
+    let a = c .before .before .before .before .before .before .before .args in
+    let e : areSlots (a .status .now) ≡ false = sym (c .before .before .are-slots .ensures) ∙ not-true _ (c .before .if2 .taken) in
+    ap (λ (n : ℕ). unchanged n (a .status .now) (a .criteria .now)) (c .above-162 .ensures)
+    ∙ on-unsound (a .status .now) (a .criteria .now) _ (omega arith) e
+
+load-slots-requires : tie.Need-load-slots-requires
+load-slots-requires c κs =
+    let a = c .before .before .before .before .before .before .before .before .args in
+    let e : areSlots (a .status .now) ≡ true = sym (c .before .before .before .are-slots .ensures) ∙ not-false _ (c .before .before .if2 .left) in
+    (slots-few (a .status .now) e, omega arith)
+
+choose-requires : tie.Need-choose-requires
+choose-requires c κs = search needs
+
+write-done-requires : tie.Need-write-done-requires
+write-done-requires c κs =
+    let a = c .before .before .before .before .before .before .before .before .before .before .before .before .args in
+    let e : areSlots (a .status .now) ≡ true = sym (c .before .before .before .before .before .before .before .are-slots .ensures) ∙ not-false _ (c .before .before .before .before .before .before .if2 .left) in
+    (slots-few (a .status .now) e, (omega arith, subst (SmallDone (a .status .now) (a .criteria .now)) (sym (c .before .before .choose .ensures)) (choose-small (a .status .now) (a .criteria .now) _) .fits))
+
+same-length-2 : tie.Need-same-length-2
+same-length-2 c = search needs
+
+same-length-3 : tie.Need-same-length-3
+same-length-3 c = search needs
+
+returns-3 : tie.Need-returns-3
+unfolding burstChoose
+returns-3 c =
+    let a = c .before .before .before .before .before .before .before .before .before .before .before .before .before .before .before .before .before .args in
+    let e : areSlots (a .status .now) ≡ true = sym (c .before .before .before .before .before .before .before .before .before .before .before .before .are-slots .ensures) ∙ not-false _ (c .before .before .before .before .before .before .before .before .before .before .before .if2 .left) in
+    c .before .before .before .before .write-done .ensures
+    ∙ ap (λ (o : Left). doneCall (a .status .now) (a .criteria .now) (o .answer) (o .slots)) (c .before .before .before .before .before .before .before .choose .ensures ∙ ap (λ (s : Slots). chooseOutcome s) (c .before .before .before .before .before .before .before .before .load-slots .ensures))
+    ∙ on-slots (a .status .now) (a .criteria .now) _ (omega arith) e
+
+pub dfb-burst-choose-spec : {M : Type 1} → statement M
+dfb-burst-choose-spec =
+    tie.close
+    (tie.spec
+    above-16-requires
+    returns
+    are-slots-requires
+    above-16-requires-2
+    same-length
+    returns-2
+    load-slots-requires
+    choose-requires
+    write-done-requires
+    same-length-2
+    same-length-3
+    returns-3)
