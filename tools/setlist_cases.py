@@ -50,6 +50,7 @@ CASES = [
     ("10 comes before 5", [h("02430001 0243"), h("02430001 03000000")]),
     ("10 comes before 1 and 4", [h("01FF00"), h("02FF00")]),
     ("5 comes before 1 and 4", [h("02430001 01000000"), h("02430001 02420000")]),
+    ("5 comes before 6", [h("02430001 024E0000")]),
     ("5 comes before 7", [h("01300020") + spec(3, by_place) + h("02430808")]),
     ("4 comes before 6: an APID that is not kept, no processor enabled", [h("02420000")]),
     ("6 comes before 7", [h("01300040 024E08F0")]),
