@@ -2,7 +2,8 @@
  *
  * Every function is proved: for every input, refused ones too, its answer and the later contents of every list are those of the rules
  * (docs/AUDIT.md). Each list is a pointer and then its length in elements. Pointers are valid for that length and do not overlap; that
- * is all a caller owes. A refusal is answered as its number above a base that no other answer has, and changes nothing.
+ * is all a caller owes. A refusal is answered as a base plus its number, which no other answer of that function equals, and changes
+ * nothing.
  *
  * A state is eight numbers: registers 0x30 to 0x36 and then the phase. All 0 is the state after reset. Totals are 784 numbers, all 0 after
  * reset. Keep both as the last call left them. A state of another length than 8 is refusal 2.
@@ -22,7 +23,8 @@ extern "C" {
 #define DFB_POWERS 7168
 #define DFB_OUTPUT 1176
 
-/* The base of refusals: a refusal is the base + its number, 1 to 99. */
+/* The base of refusals: a refusal is the base + its number, 1 to 99. An answer below the base is a value. Of dfb_tick test DFB_REPORTED
+ * first: a report is above the refusals. Of dfb_burst_offer look at bits 19:0. */
 #define DFB_REFUSED_8 0x100u
 #define DFB_REFUSED_16 0x10000u
 #define DFB_REFUSED_63 0x8000000000000000u

@@ -9,6 +9,7 @@ import os
 
 STATE, TOTALS, POWERS, OUTPUT = 8, 784, 7168, 1176
 COMMAND, WORD, SECOND_MARK, TICK = 1, 2, 3, 4
+FREE, HELD, SENDING = 0, 1, 2
 
 CAUSES = {
     1: "the command ID is outside 0x30 to 0x36",
@@ -24,6 +25,11 @@ CAUSES = {
     11: "the log is over 65,536 bytes",
     12: "a bin setting, band or FFT bin is out of range",
     13: "a band mean is over 2^32 - 1",
+    25: "no slot is free and no held slot has a smaller criterion",
+    26: "nothing is held to send",
+    27: "a slot is already sending",
+    28: "no slot is sending",
+    29: "the limit is 0 blocks",
 }
 
 
@@ -67,6 +73,10 @@ for _name, _answer, _arguments in (
     ("compress_sum", U16, [U64]),
     ("expand_sum", U32, [U16] + _list(U64)),
     ("describe_band", U32, [U8, U8] + _list(ctypes.c_float)),
+    ("burst_offer", U32, _list(U8) + _list(U32) + [U32]),
+    ("burst_choose", U32, _list(U8) + _list(U32)),
+    ("burst_finish", U32, _list(U8) + _list(U32)),
+    ("choose_interval", U64, _list(U32) + [U32, U32]),
 ):
     _function = getattr(_library, "dfb_" + _name)
     _function.restype, _function.argtypes = _answer, _arguments
@@ -188,6 +198,36 @@ def describe_band(setting, band):
     three = (ctypes.c_float * 3)()
     _below_16(_library.dfb_describe_band(_number(setting, 8), _number(band, 8), three, 3))
     return tuple(three)
+
+
+class BurstSlots:
+    """Burst slots, all free. Status (FREE, HELD or SENDING) and criterion of each are kept here between the calls."""
+
+    def __init__(self, count):
+        self.count = count
+        self.status = (U8 * count)()
+        self.criteria = (U32 * count)()
+
+    def offer(self, criterion):
+        """Offers a block: the slot that takes it, or None where it is turned away (25), and the number of slots looked at."""
+        answer = _library.dfb_burst_offer(self.status, self.count, self.criteria, self.count, _number(criterion, 32))
+        low, looked = answer & 0xFFFFF, answer >> 20
+        return (None, looked) if low == 0x10000 + 25 else (_below_16(low), looked)
+
+    def choose(self):
+        """Chooses the block to send next: its slot."""
+        return _below_16(_library.dfb_burst_choose(self.status, self.count, self.criteria, self.count))
+
+    def finish(self):
+        """Frees the slot that was sending: the slot."""
+        return _below_16(_library.dfb_burst_finish(self.status, self.count, self.criteria, self.count))
+
+
+def choose_interval(index, bonus, limit):
+    """First and last block of the interval of Burst 1 to send next, from criteria with the oldest first."""
+    index = _numbers("I", U32, index)
+    answer = _below_63(_library.dfb_choose_interval(index, len(index), _number(bonus, 32), _number(limit, 32)))
+    return answer & 0xFFFF, answer >> 16
 
 
 if __name__ == "__main__":

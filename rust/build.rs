@@ -1,6 +1,6 @@
-//! Links the proved archive libdfb.a, which `rt staticlib dfb` makes, and compiles the plain C of ../bench for tests and benchmark.
+//! Links the proved archive libdfb.a, which `tools/dist` makes, and compiles the plain C of ../bench for tests and benchmark.
 //!
-//! DFB_LIB names the archive's folder where it is not ../target/staticlib.
+//! DFB_LIB names the archive's folder where it is not ../dist.
 use std::env;
 use std::path::{Path, PathBuf};
 use std::process::Command;
@@ -20,10 +20,10 @@ fn main() {
 
 fn link_archive(package: &Path) {
     println!("cargo:rerun-if-env-changed=DFB_LIB");
-    let folder = env::var_os("DFB_LIB").map_or(package.join("../target/staticlib"), PathBuf::from);
+    let folder = env::var_os("DFB_LIB").map_or(package.join("../dist"), PathBuf::from);
     let archive = folder.join("libdfb.a");
     if !archive.exists() {
-        panic!("{} is not there: run `rt staticlib dfb`, or name its folder in DFB_LIB", archive.display());
+        panic!("{} is not there: run `tools/dist`, or name its folder in DFB_LIB", archive.display());
     }
     println!("cargo:rerun-if-changed={}", archive.display());
     println!("cargo:rustc-link-search=native={}", folder.canonicalize().unwrap().display());

@@ -103,7 +103,10 @@ class Dist(unittest.TestCase):
             self.skipTest("no nm")
         symbols = subprocess.run(["nm", "-D", "--defined-only", os.path.join(DIST, "libdfb.so")], capture_output=True, check=True)
         exported = {line.split()[2] for line in symbols.stdout.decode().splitlines()}
-        names = ("command read tick pack unpack append listing band_of compress_band expand_band compress_sum expand_sum describe_band").split()
+        names = (
+            "command read tick pack unpack append listing band_of compress_band expand_band compress_sum expand_sum describe_band "
+            "burst_offer burst_choose burst_finish choose_interval"
+        ).split()
         self.assertEqual(exported, {"dfb_" + name for name in names})
 
 
@@ -158,6 +161,28 @@ class Python(unittest.TestCase):
         self.refused(12, dfb.band_of, 3, 0)
         self.refused(12, dfb.describe_band, 0, 36)
 
+    def test_bursts(self):
+        slots = dfb.BurstSlots(2)
+        self.refused(26, slots.choose)
+        self.refused(28, slots.finish)
+        self.assertEqual([slots.offer(criterion) for criterion in (5, 9, 7, 7)], [(0, 1), (1, 2), (0, 2), (None, 2)])
+        self.assertEqual((list(slots.status), list(slots.criteria)), ([dfb.HELD, dfb.HELD], [7, 9]))
+        self.assertEqual(slots.choose(), 1)
+        self.refused(27, slots.choose)
+        self.assertEqual((list(slots.status), list(slots.criteria)), ([dfb.HELD, dfb.SENDING], [7, 0]))
+        self.assertEqual((slots.finish(), list(slots.status)), (1, [dfb.HELD, dfb.FREE]))
+        slots.status[0] = 3
+        self.refused(3, slots.offer, 1)
+        self.refused(3, dfb.BurstSlots(33).choose)
+
+    def test_interval(self):
+        self.assertEqual(dfb.choose_interval([1, 5, 9, 9, 2], 4, 10), (1, 3))
+        self.assertEqual(dfb.choose_interval([1, 5, 9, 9, 2], 4, 2), (1, 2))
+        self.assertEqual(dfb.choose_interval([2**32 - 1] * 3, 2**32 - 1, 2**32 - 1), (0, 2))
+        self.refused(2, dfb.choose_interval, [1] * 16001, 0, 1)
+        self.refused(29, dfb.choose_interval, [1], 0, 0)
+        self.refused(26, dfb.choose_interval, [0, 0], 0, 1)
+
     def test_numbers_that_do_not_fit(self):
         board = dfb.Board()
         for function, arguments in (
@@ -171,6 +196,9 @@ class Python(unittest.TestCase):
             (dfb.compress_band, (2**32,)),
             (dfb.compress_sum, (2**64,)),
             (dfb.expand_sum, (0x10000,)),
+            (dfb.BurstSlots(1).offer, (2**32,)),
+            (dfb.choose_interval, ([2**32], 0, 1)),
+            (dfb.choose_interval, ([1], 0, 2**32)),
         ):
             self.assertRaises(OverflowError, function, *arguments)
         self.assertEqual(bytes(board.state), bytes(16))

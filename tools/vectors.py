@@ -29,13 +29,23 @@ reported 18
  4e 00 0c
 band code 0c 8
 waiting
+ 0
 collected
  0
 reported 18
  0
  4e 00 00
 band code 00 0
-waiting"""
+waiting
+ 0
+collected
+ 8
+collected
+ 19
+ 00 00 00
+band code 00 0
+collected
+ 30"""
 
 
 def band_codes():

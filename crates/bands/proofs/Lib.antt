@@ -4,4 +4,5 @@ pub mod FineBands
 pub mod Bins
 pub mod Settings
 pub mod Power
+pub mod Octaves
 pub mod Floats

@@ -1,4 +1,5 @@
--- 01, "Bands" and "Forms to use in the code": the floats of an answer are exact to the bit. `HasValue x false a c` says that x is finite, positive and a / c.
+-- 01, "Bands" and "Forms to use in the code": the floats of an answer are exact to the bit. `HasValue x false a c` says that x is finite, has no
+-- minus sign, and is a / c in size.
 use mathlib.Core.Path.{_≡_}
 use mathlib.Core.Bool.{false}
 use Prim.Native.Nat.{ℕ, _+_, _*_, _^_}

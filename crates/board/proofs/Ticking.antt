@@ -1,17 +1,16 @@
 -- What a sound state of a running board gives a tick. Assumes nothing.
-use Prim.Native.Nat.{ℕ, _+_, _-_, _*_, _/_, _%_, _^_, _≤_, _<_}
+use Prim.Native.Nat.{ℕ, _+_, _-_, _*_, _^_, _≤_, _<_}
 use mathlib.Core.Path.{_≡_, refl, sym, ap, _∙_, subst}
 use mathlib.Core.Bool.{Bool, true, false, cond}
 use mathlib.Core.List.{List}
-use native.Mathlib.Nat.{le-trans, mul-le-mul, add-mul, one-mul}
+use native.Mathlib.Nat.{add-mul, one-mul}
 use native.Mathlib.Omega.{arith}
-use lib.Dec.{leb, ltb, eqb, lit≤}
-use lib.ListN.{getD}
+use lib.Dec.{ltb}
 use borrow.Author.Tests.{ltb-true, le-leb, eq-eqb}
-use Rattle.lists.proofs.Choices.{both, cond-at}
+use Rattle.lists.proofs.Choices.{both}
 use Rattle.lists.proofs.Sums.{allTo-of}
 use Rattle.lists.proofs.Tables.{getD-grid}
-use Rattle.registers.specs.Settings.{settingOf, bandsOf, averagedSpectra, periodTicks, enabledOf}
+use Rattle.settings.specs.Settings.{bandsOf, averagedSpectra, periodTicks, enabledOf}
 use Rattle.registers.specs.declared.Registers.{Registers}
 use Rattle.model.specs.declared.State.{State}
 use Rattle.model.specs.Totals.{inUse, widthOf, bandPower, slot, added}
@@ -20,8 +19,10 @@ use Rattle.model.specs.Calls.{Powers}
 use Rattle.model.proofs.Phases.{phase-lt, held-le, held-reporting}
 use Rattle.model.proofs.SpectraTotals.{bandPower-le}
 use Rattle.model.proofs.Sound.{Sound, sound-parts}
-use Rattle.board.specs.Rows.{Ticking, AllAddable}
-use Rattle.board.proofs.Limiting.{limit-le}
+use Rattle.limits.proofs.Laws.{total-le}
+use Rattle.totals.specs.Adding.{addedModulo}
+use Rattle.totals.proofs.Laws.{added-plain}
+use Rattle.board.specs.Private.{Ticking}
 
 module _ (s : State) (totals powers out : List ℕ) (t : Ticking s totals powers out) where
   abbrev r : Registers
@@ -33,21 +34,12 @@ module _ (s : State) (totals powers out : List ℕ) (t : Ticking s totals powers
   pub phase-in : s .phase < periodTicks r
   phase-in = phase-lt r (s .phase) (t .is-running) (parts .phase)
 
-  -- no total is over 2 ^ 52
-  slot-le : (n b : ℕ) → n < 7 → b < 112 → slot totals n b ≤ 2 ^ 52
-  slot-le n b h l =
-      le-trans (parts .totals n b h l)
-      (cond-at (λ (x : ℕ). x ≤ 2 ^ 52) (inUse r n b)
-      (λ u. limit-le (settingOf r) (spectraHeld r (s .phase)) (held-le r (s .phase)) b (ltb-true b (bandsOf r) (both (enabledOf r n) (ltb b (bandsOf r)) u .1)))
-      (λ u. lit≤ tt))
-
-  total-le : (i : ℕ) → i < 784 → getD totals i 0 ≤ 2 ^ 52
-  total-le i h =
-      let split : i / 112 * 112 + i % 112 ≡ i = omega arith in
-      subst (λ (k : ℕ). getD totals k 0 ≤ 2 ^ 52) split (slot-le (i / 112) (i % 112) (omega arith) (omega arith))
-
-  pub addable : AllAddable totals powers
-  addable = record { totals-length = t .totals-length; powers-length = t .powers-length; bound = λ i h. omega (arith, total-le i h) }
+  -- no sum comes to 2 ^ 64
+  pub added-here : Powers powers → addedModulo r totals powers ≡ added r totals powers
+  added-here h =
+      added-plain r totals powers
+      (λ i l. omega (arith, total-le r (spectraHeld r (s .phase)) totals (omega (arith, held-le r (s .phase))) (parts .totals) i l))
+      h (t .totals-length) (t .powers-length)
 
   -- ---- at phase N - 1
 

@@ -1,9 +1,5 @@
 // The board: commands, reads and ticks (01, "Periods"). The state goes in and comes back; the totals, the powers and the output are the caller's.
 // Crate `model` has the types and the rules.
-mod adding;
-mod within;
-mod writing;
-
 ghost use mathlib.Core.Path.{_≡_};
 ghost use mathlib.Core.Bool.{true, cond};
 ghost use Prim.Native.Nat.{_+_, _-_, _<_, _≤_};
@@ -11,14 +7,11 @@ ghost use lib.Dec.{eqb};
 ghost use lib.ListN.{length};
 ghost use Rattle.registers.specs.Store.{stored};
 ghost use Rattle.registers.specs.Access.{isId, registersSound, storedTo, answerOutcome, registerRead};
-ghost use Rattle.registers.specs.Settings.{averagedSpectra, periodTicks, runningOf};
+ghost use Rattle.settings.specs.Settings.{averagedSpectra, runningOf};
 ghost use Rattle.model.specs.Totals.{added};
 ghost use Rattle.model.specs.Board.{phaseSound, spectraHeld, totalsWithin, stateSound, commandReply, commandOutcome, tickReply, atNextPhase, lengthsFit, reportOutcome, runningOutcome, tickOutcome};
-ghost use Rattle.board.specs.Rows.{Ticking};
-use crate::adding::add_spectrum;
-use crate::adding::clear;
-use crate::within::totals_within;
-use crate::writing::write_report;
+ghost use Rattle.board.specs.Private.{Ticking};
+use limits::totals_within;
 use model::Commanded;
 use model::State;
 use model::TickAnswer;
@@ -26,6 +19,9 @@ use model::Ticked;
 use refusal::Refusal;
 use registers::Answer;
 use registers::Registers;
+use report::write_report;
+use totals::add_spectrum;
+use totals::clear;
 
 // The phase is below C when running, and otherwise 0.
 fn is_phase_sound(registers: Registers, running: bool, phase: u16) -> bool
@@ -33,7 +29,7 @@ fn is_phase_sound(registers: Registers, running: bool, phase: u16) -> bool
     ensures { λ r. ⌜ r ≡ phaseSound registers phase ⌝ }
 {
     if running {
-        phase < registers.period_ticks()
+        phase < settings::period_ticks(registers)
     } else {
         phase == 0
     }
@@ -42,12 +38,12 @@ fn is_phase_sound(registers: Registers, running: bool, phase: u16) -> bool
 // How many spectra the totals hold.
 fn spectra_held(registers: Registers, running: bool, phase: u16) -> u16
     requires { ⌜ running ≡ runningOf registers ⌝ }
-    ensures { λ r. ⌜ (r ≡ spectraHeld registers phase) × (r ≤ 1024) ⌝ }
+    ensures { λ r. ⌜ r ≡ spectraHeld registers phase ⌝ }
 {
     if !running {
         return 0;
     }
-    if phase < registers.averaged_spectra() {
+    if phase < settings::averaged_spectra(registers) {
         phase
     } else {
         0
@@ -67,11 +63,7 @@ fn is_sound(state: State, running: bool, totals: &[u64]) -> bool
     if !is_phase_sound(registers, running, phase) {
         return false;
     }
-    totals_within(
-        registers,
-        totals,
-        spectra_held(registers, running, phase) as u64,
-    )
+    totals_within(registers, totals, spectra_held(registers, running, phase))
 }
 
 // The stored value of a register. Refused by 3, for the registers only, then 1.
@@ -117,7 +109,7 @@ pub fn command(state: State, totals: &mut [u64], id: u8, information: u16) -> Co
         return refused_command(state, Refusal::WrongLength);
     }
     let registers = state.registers;
-    if !is_sound(state, registers.running(), totals) {
+    if !is_sound(state, settings::running(registers), totals) {
         return refused_command(state, Refusal::UnsoundState);
     }
     if !registers::is_id(id) {
@@ -141,11 +133,17 @@ fn means_fit(registers: Registers, totals: &[u64]) -> bool
     requires { ⌜ length (now totals) ≡ 784 ⌝ }
     ensures { λ r. ⌜ r ≡ totalsWithin registers (averagedSpectra registers) (now (totals .entry)) ⌝ }
 {
-    totals_within(registers, totals, registers.averaged_spectra() as u64)
+    totals_within(registers, totals, settings::averaged_spectra(registers))
 }
 
 // A tick at phase N - 1, with the state after it. Refused by 13, which no sound state comes to: the totals have the powers added by then.
-fn report(state: State, next: State, totals: &mut [u64], powers: &[u32], out: &mut [u8]) -> Ticked
+fn reporting_tick(
+    state: State,
+    next: State,
+    totals: &mut [u64],
+    powers: &[u32],
+    out: &mut [u8],
+) -> Ticked
     requires { ⌜ Ticking state (now totals) (now powers) (now out) ⌝ }
     requires { ⌜ state .phase ≡ averagedSpectra (state .registers) - 1 ⌝ }
     requires { ⌜ next ≡ atNextPhase state ⌝ }
@@ -159,7 +157,7 @@ fn report(state: State, next: State, totals: &mut [u64], powers: &[u32], out: &m
     let words = write_report(registers, totals, out);
     clear(totals);
     Ticked {
-        answer: TickAnswer::Reported(words as u16),
+        answer: TickAnswer::Reported(words),
         state: next,
     }
 }
@@ -171,8 +169,8 @@ fn running_tick(state: State, totals: &mut [u64], powers: &[u32], out: &mut [u8]
 {
     let registers = state.registers;
     let phase = state.phase;
-    let period = registers.period_ticks();
-    let spectra = registers.averaged_spectra();
+    let period = settings::period_ticks(registers);
+    let spectra = settings::averaged_spectra(registers);
     let last = spectra - 1;
     let next = State {
         registers,
@@ -186,7 +184,7 @@ fn running_tick(state: State, totals: &mut [u64], powers: &[u32], out: &mut [u8]
         };
     }
     if phase == last {
-        return report(state, next, totals, powers, out);
+        return reporting_tick(state, next, totals, powers, out);
     }
     Ticked {
         answer: TickAnswer::Waiting,
@@ -218,7 +216,7 @@ pub fn tick(state: State, totals: &mut [u64], powers: &[u32], out: &mut [u8]) ->
         return refused_tick(state, Refusal::WrongLength);
     }
     let registers = state.registers;
-    let is_running = registers.running();
+    let is_running = settings::running(registers);
     if !is_sound(state, is_running, totals) {
         return refused_tick(state, Refusal::UnsoundState);
     }

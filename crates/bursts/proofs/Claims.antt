@@ -12,7 +12,7 @@ use Rattle.lists.proofs.Choices.{by-cases}
 use Rattle.bursts.specs.declared.Slots.{Slots}
 use Rattle.bursts.specs.declared.SlotState.{SlotState}
 use Rattle.bursts.specs.declared.SlotState.the-variants.{Free, Held, Sending}
-use Rattle.bursts.specs.Slots.{stateOf, isFree, isSending, smaller, smallestHeld, noSlot, sendingSlots, sound, changed}
+use Rattle.bursts.specs.Slots.{stateOf, isFree, isSending, heldBelow, smallestHeld, noSlot, sendingSlots, sound, changed}
 use Rattle.bursts.specs.Calls.{Call, offer, choose, finish, perform, afterCalls, offers, NoFinish, Sound, heldFrom, heldAtLeast, offeredAtLeast, Proved}
 use Rattle.bursts.proofs.Rules.{sound-few}
 use Rattle.bursts.proofs.Cases.{offer-cases}
@@ -46,18 +46,18 @@ all-stays (finish ∷ cs) s ok h i l e = absurd h
 -- ---- the best are held
 
 -- every slot is held with a criterion of at least m
-held-all : (a : SlotState) (m x : ℕ) → x ≤ m → not (isFree a) ≡ true → isSending a ≡ false → not (smaller m a) ≡ true → heldFrom x a ≡ true
+held-all : (a : SlotState) (m x : ℕ) → x ≤ m → not (isFree a) ≡ true → isSending a ≡ false → not (heldBelow m a) ≡ true → heldFrom x a ≡ true
 held-all Free m x h f g k = absurd (true≢false (sym f))
 held-all (Held c) m x h f g k = le-leb x c (omega (arith, ltb-false c m (not-true _ k)))
 held-all Sending m x h f g k = absurd (true≢false g)
 
-full : (s : Slots) (m x : ℕ) → x ≤ m → noSlot s isFree ≡ true → sendingSlots s ≡ 0 → noSlot s (smaller m) ≡ true → heldAtLeast x s ≡ s .count
+full : (s : Slots) (m x : ℕ) → x ≤ m → noSlot s isFree ≡ true → sendingSlots s ≡ 0 → noSlot s (heldBelow m) ≡ true → heldAtLeast x s ≡ s .count
 unfolding heldAtLeast sendingSlots
 full s m x h f g k =
     passing-all (heldFrom x) s
     (λ i l.
     held-all (stateOf s i) m x h (allTo-at (s .count) (λ j. not (isFree (stateOf s j))) f i l) (passing-none isSending s g i l)
-    (allTo-at (s .count) (λ j. not (smaller m (stateOf s j))) k i l))
+    (allTo-at (s .count) (λ j. not (heldBelow m (stateOf s j))) k i l))
 
 -- one offer
 free-none : (x : ℕ) (a : SlotState) → isFree a ≡ true → _≡_ {A = ℕ} (cond (heldFrom x a) 1 0) 0
@@ -66,21 +66,21 @@ free-none x (Held c) f = absurd (true≢false (sym f))
 free-none x Sending f = refl
 
 -- where the smallest criterion is m, and some criterion is smaller than y, m is
-smaller-than : (s : Slots) (m y : ℕ) → noSlot s (smaller m) ≡ true → noSlot s (smaller y) ≡ false → m < y
+smaller-than : (s : Slots) (m y : ℕ) → noSlot s (heldBelow m) ≡ true → noSlot s (heldBelow y) ≡ false → m < y
 smaller-than s m y k g =
     by-cases (ltb m y) (ltb-true m y)
     (λ e.
-    let none : noSlot s (smaller y) ≡ true =
-    allTo-of (s .count) (λ j. not (smaller y (stateOf s j)))
-    (λ j l. less (stateOf s j) (ltb-false m y e) (allTo-at (s .count) (λ i. not (smaller m (stateOf s i))) k j l)) in
+    let none : noSlot s (heldBelow y) ≡ true =
+    allTo-of (s .count) (λ j. not (heldBelow y (stateOf s j)))
+    (λ j l. less (stateOf s j) (ltb-false m y e) (allTo-at (s .count) (λ i. not (heldBelow m (stateOf s i))) k j l)) in
     absurd (true≢false (sym none ∙ g)))
   where
-    less : (a : SlotState) → y ≤ m → not (smaller m a) ≡ true → not (smaller y a) ≡ true
+    less : (a : SlotState) → y ≤ m → not (heldBelow m a) ≡ true → not (heldBelow y a) ≡ true
     less Free h k = refl
     less (Held c) h k = ap not (le-ltb c y (omega (arith, ltb-false c m (not-true _ k))))
     less Sending h k = refl
 
-replaced-best : (s : Slots) (y x n : ℕ) (a : SlotState) → noSlot s isFree ≡ true → sendingSlots s ≡ 0 → noSlot s (smaller y) ≡ false →
+replaced-best : (s : Slots) (y x n : ℕ) (a : SlotState) → noSlot s isFree ≡ true → sendingSlots s ≡ 0 → noSlot s (heldBelow y) ≡ false →
     smallestHeld s a ≡ true → n ≤ s .count → heldAtLeast x s ≤ s .count →
     n + cond (heldFrom x a) 1 0 ≡ heldAtLeast x s + cond (leb x y) 1 0 → n ≡ min (s .count) (heldAtLeast x s + cond (leb x y) 1 0)
 replaced-best s y x n Free f z g k few most e = absurd (true≢false (sym k))
@@ -128,8 +128,8 @@ all-best (y ∷ ys) s ok z x =
     )
 
 -- an offer that is not greater than the smallest changes nothing
-equal-stays : (s : Slots) → Sound s → (x : ℕ) → noSlot s isFree ≡ true → noSlot s (smaller x) ≡ true → perform s (offer x) ≡ s
-equal-stays s ok x f g =
+turned-away-stays : (s : Slots) → Sound s → (x : ℕ) → noSlot s isFree ≡ true → noSlot s (heldBelow x) ≡ true → perform s (offer x) ≡ s
+turned-away-stays s ok x f g =
     offer-cases s (λ (t : Slots). t ≡ s) x
     (λ p l e. absurd (true≢false (sym (allTo-at (s .count) (λ j. not (isFree (stateOf s j))) f p l) ∙ ap not e)))
     (λ n h p l k. absurd (true≢false (sym g ∙ h)))
@@ -146,5 +146,5 @@ proved s ok =
       sending-stays = λ cs. all-stays cs s ok;
       sending-finished = kept.sending-finished s ok;
       best-held = λ z xs x. all-best xs s ok z x;
-      equal-stays = equal-stays s ok;
+      turned-away-stays = turned-away-stays s ok;
     }

@@ -11,7 +11,7 @@ use Rattle.bursts.specs.declared.Slots.{Slots}
 use Rattle.bursts.specs.declared.SlotState.{SlotState}
 use Rattle.bursts.specs.declared.SlotState.the-variants.{Free, Held, Sending}
 use Rattle.lists.specs.Lowest.{lowest}
-use Rattle.bursts.specs.Slots.{stateOf, isHeld, smaller, greater, lowestSlot, noSlot, smallestHeld, greatestHeld}
+use Rattle.bursts.specs.Slots.{stateOf, isHeld, heldBelow, heldAbove, lowestSlot, noSlot, smallestHeld, greatestHeld}
 use Rattle.lists.proofs.Lowest.{lowest-at, lowest-none}
 use Rattle.lists.proofs.Best.{Best, best}
 
@@ -41,22 +41,22 @@ found s value test place top passes fails b h =
 module _ (s : Slots) where
   -- ---- the smallest below x
 
-  none-under : (x : ℕ) (a : SlotState) → under x a ≤ 0 → not (smaller x a) ≡ true
+  none-under : (x : ℕ) (a : SlotState) → under x a ≤ 0 → not (heldBelow x a) ≡ true
   none-under x Free h = refl
   none-under x (Held c) h = ap not (le-ltb c x (omega arith))
   none-under x Sending h = refl
 
-  some-under : (x : ℕ) (a : SlotState) → 0 < under x a → not (smaller x a) ≡ false
+  some-under : (x : ℕ) (a : SlotState) → 0 < under x a → not (heldBelow x a) ≡ false
   some-under x Free h = absurd (omega arith)
   some-under x (Held c) h = ap not (lt-ltb c x (omega arith))
   some-under x Sending h = absurd (omega arith)
 
-  not-smaller : (x c : ℕ) (a : SlotState) → c < x → under x a ≤ x - c → not (smaller c a) ≡ true
+  not-smaller : (x c : ℕ) (a : SlotState) → c < x → under x a ≤ x - c → not (heldBelow c a) ≡ true
   not-smaller x c Free l h = refl
   not-smaller x c (Held d) l h = ap not (le-ltb d c (omega arith))
   not-smaller x c Sending l h = refl
 
-  is-smaller : (x c : ℕ) (a : SlotState) → x - c < under x a → not (smaller c a) ≡ false
+  is-smaller : (x c : ℕ) (a : SlotState) → x - c < under x a → not (heldBelow c a) ≡ false
   is-smaller x c Free h = absurd (omega arith)
   is-smaller x c (Held d) h = ap not (lt-ltb d c (omega arith))
   is-smaller x c Sending h = absurd (omega arith)
@@ -65,51 +65,51 @@ module _ (s : Slots) where
       smallestHeld s a ≡ true
   smallest-passes x Free h most = absurd (omega arith)
   smallest-passes x (Held c) h most =
-      allTo-of (s .count) (λ i. not (smaller c (stateOf s i))) (λ j l. not-smaller x c (stateOf s j) (omega arith) (most j l))
+      allTo-of (s .count) (λ i. not (heldBelow c (stateOf s i))) (λ j l. not-smaller x c (stateOf s j) (omega arith) (most j l))
   smallest-passes x Sending h most = absurd (omega arith)
 
   smallest-fails : (x : ℕ) (a : SlotState) (p : ℕ) → p < s .count → under x a < under x (stateOf s p) → smallestHeld s a ≡ false
   smallest-fails x Free p l h = refl
   smallest-fails x (Held c) p l h =
-      allTo-false (λ i. not (smaller c (stateOf s i))) (s .count) p l (is-smaller x c (stateOf s p) h)
+      allTo-false (λ i. not (heldBelow c (stateOf s i))) (s .count) p l (is-smaller x c (stateOf s p) h)
   smallest-fails x Sending p l h = refl
 
   pub smallest-found : (x place top : ℕ) → Best (s .count) (λ j. under x (stateOf s j)) (s .count) place top →
-      cond (noSlot s (smaller x)) (s .count) (lowestSlot s (smallestHeld s)) ≡ place
+      cond (noSlot s (heldBelow x)) (s .count) (lowestSlot s (smallestHeld s)) ≡ place
   smallest-found x place top b =
       by-cases (ltb 0 top)
       (λ t.
       let h = ltb-true 0 top t in
-      cond-false (noSlot s (smaller x)) _ _
-      (allTo-false (λ i. not (smaller x (stateOf s i))) (s .count) place (b .here h .0)
+      cond-false (noSlot s (heldBelow x)) _ _
+      (allTo-false (λ i. not (heldBelow x (stateOf s i))) (s .count) place (b .here h .0)
       (some-under x (stateOf s place) (omega (arith, b .here h .1))))
       ∙ found s (under x) (smallestHeld s) place top (smallest-passes x) (smallest-fails x) b h)
       (λ t.
       let z : top ≡ 0 = omega (arith, ltb-false 0 top t) in
-      cond-true (noSlot s (smaller x)) _ _
-      (allTo-of (s .count) (λ i. not (smaller x (stateOf s i))) (λ j l. none-under x (stateOf s j) (omega (arith, b .most j l))))
+      cond-true (noSlot s (heldBelow x)) _ _
+      (allTo-of (s .count) (λ i. not (heldBelow x (stateOf s i))) (λ j l. none-under x (stateOf s j) (omega (arith, b .most j l))))
       ∙ sym (b .nothing z))
 
   -- some slot is held with a criterion below x, so one has the smallest
-  pub smallest-some : (x : ℕ) → noSlot s (smaller x) ≡ false → lowestSlot s (smallestHeld s) < s .count
+  pub smallest-some : (x : ℕ) → noSlot s (heldBelow x) ≡ false → lowestSlot s (smallestHeld s) < s .count
   smallest-some x e =
       let (place, top, b) = best (s .count) (λ j. under x (stateOf s j)) (s .count) in
-      let p : lowestSlot s (smallestHeld s) ≡ place = sym (cond-false (noSlot s (smaller x)) _ _ e) ∙ smallest-found x place top b in
+      let p : lowestSlot s (smallestHeld s) ≡ place = sym (cond-false (noSlot s (heldBelow x)) _ _ e) ∙ smallest-found x place top b in
       by-cases (ltb 0 top)
       (λ t. omega (arith, p, b .here (ltb-true 0 top t)))
       (λ t.
-      let a : noSlot s (smaller x) ≡ true =
-      allTo-of (s .count) (λ i. not (smaller x (stateOf s i))) (λ j l. none-under x (stateOf s j) (omega (arith, ltb-false 0 top t, b .most j l))) in
+      let a : noSlot s (heldBelow x) ≡ true =
+      allTo-of (s .count) (λ i. not (heldBelow x (stateOf s i))) (λ j l. none-under x (stateOf s j) (omega (arith, ltb-false 0 top t, b .most j l))) in
       absurd (true≢false (sym a ∙ e)))
 
   -- ---- the greatest
 
-  not-greater : (c : ℕ) (a : SlotState) → worth a ≤ c + 1 → not (greater c a) ≡ true
+  not-greater : (c : ℕ) (a : SlotState) → worth a ≤ c + 1 → not (heldAbove c a) ≡ true
   not-greater c Free h = refl
   not-greater c (Held d) h = ap not (le-ltb c d (omega arith))
   not-greater c Sending h = refl
 
-  is-greater : (c : ℕ) (a : SlotState) → c + 1 < worth a → not (greater c a) ≡ false
+  is-greater : (c : ℕ) (a : SlotState) → c + 1 < worth a → not (heldAbove c a) ≡ false
   is-greater c Free h = absurd (omega arith)
   is-greater c (Held d) h = ap not (lt-ltb c d (omega arith))
   is-greater c Sending h = absurd (omega arith)
@@ -117,13 +117,13 @@ module _ (s : Slots) where
   greatest-passes : (a : SlotState) → 0 < worth a → ((j : ℕ) → j < s .count → worth (stateOf s j) ≤ worth a) → greatestHeld s a ≡ true
   greatest-passes Free h most = absurd (omega arith)
   greatest-passes (Held c) h most =
-      allTo-of (s .count) (λ i. not (greater c (stateOf s i))) (λ j l. not-greater c (stateOf s j) (most j l))
+      allTo-of (s .count) (λ i. not (heldAbove c (stateOf s i))) (λ j l. not-greater c (stateOf s j) (most j l))
   greatest-passes Sending h most = absurd (omega arith)
 
   greatest-fails : (a : SlotState) (p : ℕ) → p < s .count → worth a < worth (stateOf s p) → greatestHeld s a ≡ false
   greatest-fails Free p l h = refl
   greatest-fails (Held c) p l h =
-      allTo-false (λ i. not (greater c (stateOf s i))) (s .count) p l (is-greater c (stateOf s p) h)
+      allTo-false (λ i. not (heldAbove c (stateOf s i))) (s .count) p l (is-greater c (stateOf s p) h)
   greatest-fails Sending p l h = refl
 
   worthless : (a : SlotState) → worth a ≤ 0 → greatestHeld s a ≡ false

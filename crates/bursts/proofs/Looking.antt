@@ -10,7 +10,7 @@ use Rattle.bursts.specs.declared.Slots.{Slots}
 use Rattle.bursts.specs.declared.SlotState.{SlotState}
 use Rattle.bursts.specs.declared.SlotState.the-variants.{Free, Held, Sending}
 use Rattle.lists.specs.Lowest.{lowest}
-use Rattle.bursts.specs.Slots.{stateOf, isFree, smaller, lowestSlot, noSlot, smallestHeld, sound, lookedAt, OfferAnswered, takes, refusedAfter, offerOutcome}
+use Rattle.bursts.specs.Slots.{stateOf, isFree, heldBelow, lowestSlot, noSlot, smallestHeld, sound, lookedAt, OfferAnswered, takes, refusedAfter, offerOutcome}
 use Rattle.bursts.specs.Searches.{placeFor}
 use Rattle.bursts.specs.Looked.{AgreeBelow, SameAnswer}
 use Rattle.lists.proofs.Lowest.{lowest-at, lowest-ext, lowest-before, lowest-test, none-passes}
@@ -28,7 +28,7 @@ module _ (s t : Slots) (many : s .count ≡ t .count) where
 
     same-smallest : (a : SlotState) → smallestHeld s a ≡ smallestHeld t a
     same-smallest Free = refl
-    same-smallest (Held c) = same-none (smaller c)
+    same-smallest (Held c) = same-none (heldBelow c)
     same-smallest Sending = refl
 
     same-place : lowestSlot s (smallestHeld s) ≡ lowestSlot t (smallestHeld t)
@@ -46,8 +46,8 @@ module _ (s t : Slots) (many : s .count ≡ t .count) where
       (λ e.
       let all : AgreeBelow (s .count) s t = subst (λ (n : ℕ). AgreeBelow n s t) (cond-true (noSlot s isFree) (s .count) _ e) agree in
       let e′ : noSlot t isFree ≡ true = sym (same-none all isFree) ∙ e in
-      let first = ap (λ (b : Bool). cond b (s .count) (lowestSlot s (smallestHeld s))) (same-none all (smaller x)) in
-      (simp (e, e′) (first ∙ ap₂ (cond (noSlot t (smaller x))) many (same-place all)), simp (e, e′) many))
+      let first = ap (λ (b : Bool). cond b (s .count) (lowestSlot s (smallestHeld s))) (same-none all (heldBelow x)) in
+      (simp (e, e′) (first ∙ ap₂ (cond (noSlot t (heldBelow x))) many (same-place all)), simp (e, e′) many))
       (λ e.
       let far = subst (λ (n : ℕ). AgreeBelow n s t) (cond-false (noSlot s isFree) (s .count) _ e) agree in
       let free : ℕ → Bool = λ i. isFree (stateOf s i) in

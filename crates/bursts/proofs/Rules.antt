@@ -8,7 +8,7 @@ use lib.Dec.{ltb}
 use Rattle.lists.proofs.Choices.{by-cases, both, cond-true, cond-false}
 use Rattle.bursts.specs.declared.Slots.{Slots}
 use Rattle.bursts.specs.declared.SlotState.the-variants.{Free, Held, Sending}
-use Rattle.bursts.specs.Slots.{stateOf, isFree, isHeld, isSending, smaller, lowestSlot, noSlot, smallestHeld, greatestHeld, sound, Left, refusedBy, becomes, lookedAt, OfferLeft, refusedAfter, refusedAlone, taken, offerOutcome, chooseOutcome, finishOutcome}
+use Rattle.bursts.specs.Slots.{stateOf, isFree, isHeld, isSending, heldBelow, lowestSlot, noSlot, smallestHeld, greatestHeld, sound, SlotsOutcome, refusedBy, becomes, lookedAt, OfferOutcome, refusedAfter, refusedAlone, taken, offerOutcome, chooseOutcome, finishOutcome}
 use Rattle.bursts.specs.Searches.{placeFor}
 use Rattle.lists.proofs.Lowest.{none-passes}
 use Rattle.bursts.proofs.Finding.{smallest-some, greatest-none}
@@ -27,10 +27,10 @@ pub offer-by-place : (s : Slots) (x : ℕ) →
     (cond (ltb (placeFor s x) (s .count)) (taken s (placeFor s x) (lookedAt s) x) (record { answer = refusedAfter 25 (lookedAt s); slots = s }))
 unfolding offerOutcome placeFor
 offer-by-place s x =
-    ap (λ (r : OfferLeft). cond (not (sound s)) (record { answer = refusedAlone 3; slots = s }) r)
+    ap (λ (r : OfferOutcome). cond (not (sound s)) (record { answer = refusedAlone 3; slots = s }) r)
     (by-cases (noSlot s isFree)
     (λ e.
-    by-cases (noSlot s (smaller x))
+    by-cases (noSlot s (heldBelow x))
     (λ f. simp (e, f, le-ltb (s .count) (s .count) (omega arith)))
     (λ f. simp (e, f, lt-ltb _ _ (smallest-some s x f))))
     (λ e. simp (e, some-below (noSlot s isFree) (lowestSlot s isFree) (s .count) (none-passes (s .count) (λ i. isFree (stateOf s i))) e)))
@@ -47,8 +47,8 @@ pub choose-by-place : (s : Slots) →
 unfolding chooseOutcome
 choose-by-place s =
     let none = none-passes (s .count) (λ i. isSending (stateOf s i)) in
-    ap (λ (r : Left). cond (not (sound s)) (refusedBy 3 s) r)
-    (ap (λ (r : Left). cond (not (noSlot s isSending)) (refusedBy 27 s) r) (cond-not (noSlot s isHeld) (ltb (lowestSlot s (greatestHeld s)) (s .count)) (refusedBy 26 s) _ (greatest-none s))
+    ap (λ (r : SlotsOutcome). cond (not (sound s)) (refusedBy 3 s) r)
+    (ap (λ (r : SlotsOutcome). cond (not (noSlot s isSending)) (refusedBy 27 s) r) (cond-not (noSlot s isHeld) (ltb (lowestSlot s (greatestHeld s)) (s .count)) (refusedBy 26 s) _ (greatest-none s))
     ∙ cond-not (not (noSlot s isSending)) (noSlot s isSending) (refusedBy 27 s) _ refl
     ∙ cond-not (noSlot s isSending) (ltb (lowestSlot s isSending) (s .count)) _ (refusedBy 27 s) none)
 
@@ -58,5 +58,5 @@ pub finish-by-place : (s : Slots) →
     (cond (ltb (lowestSlot s isSending) (s .count)) (becomes s (lowestSlot s isSending) Free) (refusedBy 28 s))
 unfolding finishOutcome
 finish-by-place s =
-    ap (λ (r : Left). cond (not (sound s)) (refusedBy 3 s) r)
+    ap (λ (r : SlotsOutcome). cond (not (sound s)) (refusedBy 3 s) r)
     (cond-not (noSlot s isSending) (ltb (lowestSlot s isSending) (s .count)) (refusedBy 28 s) _ (none-passes (s .count) (λ i. isSending (stateOf s i))))

@@ -9,7 +9,7 @@ use Rattle.lists.specs.Sums.{sumTo}
 use Rattle.bursts.specs.declared.SlotState.{SlotState}
 use Rattle.bursts.specs.declared.SlotState.the-variants.{Free, Held, Sending}
 use Rattle.bursts.specs.declared.Slots.{Slots}
-use Rattle.bursts.specs.Slots.{stateOf, isFree, smaller, noSlot, sendingSlots, sound, becomes, offerOutcome, chooseOutcome, finishOutcome}
+use Rattle.bursts.specs.Slots.{stateOf, isFree, heldBelow, noSlot, sendingSlots, sound, becomes, offerOutcome, chooseOutcome, finishOutcome}
 
 pub data Call : Type 0 where
   offer : ℕ → Call
@@ -59,7 +59,7 @@ offeredAtLeast x (y ∷ ys) = cond (leb x y) 1 0 + offeredAtLeast x ys
 
 -- What is proved of a sound state s.
 --
--- The blocks held are the best. With nothing sent, after any list of offers, as many held criteria are at least x, for every x, as there are
+-- The blocks held are the best. With no slot sending, after any list of offers, as many held criteria are at least x, for every x, as there are
 -- slots, or as there are such criteria among those held before and those offered, whichever is less. So the criteria held are, each as often
 -- as it occurs, the greatest of those held before and those offered. Of blocks with equal criteria the theorem does not say which are held:
 -- an offer that only equals the smallest is turned away, so that the earlier block stays, and a greater one replaces the lowest slot of the
@@ -71,4 +71,4 @@ pub record Proved (s : Slots) : Type 0 where
   pub sending-finished : (i : ℕ) → i < s .count → stateOf s i ≡ Sending → finishOutcome s ≡ becomes s i Free
   pub best-held : sendingSlots s ≡ 0 → (xs : List ℕ) (x : ℕ) →
       heldAtLeast x (afterCalls s (offers xs)) ≡ min (s .count) (heldAtLeast x s + offeredAtLeast x xs)
-  pub equal-stays : (x : ℕ) → noSlot s isFree ≡ true → noSlot s (smaller x) ≡ true → perform s (offer x) ≡ s
+  pub turned-away-stays : (x : ℕ) → noSlot s isFree ≡ true → noSlot s (heldBelow x) ≡ true → perform s (offer x) ≡ s

@@ -9,7 +9,7 @@ use Rattle.bursts.specs.Slots.{stateOf, sound, lookedAt, offerOutcome}
 abbrev pub AgreeBelow : ℕ → Slots → Slots → Type 0
 AgreeBelow n s t = (j : ℕ) → j < n → stateOf s j ≡ stateOf t j
 
--- As far as the offer looks is up to and including the first free slot of s, or all slots where none is free. The answer is the slot and the
+-- The offer looks at the first `lookedAt s` slots: up to and including the first free one, or all of them. The answer is the slot and the
 -- number, or 25 and the number.
 abbrev pub SameAnswer : Type 0
 SameAnswer =

@@ -16,7 +16,7 @@ use Rattle.bursts.specs.declared.Done.{Done}
 use Rattle.bursts.specs.declared.OfferAnswer.{OfferAnswer}
 use Rattle.bursts.specs.declared.Offered.{Offered}
 
--- ---- the state of a slot
+-- ---- the state of slot i
 
 abbrev pub stateOf : Slots → ℕ → SlotState
 stateOf s i = getD (s .slot) i (record { state = Free }) .state
@@ -37,35 +37,37 @@ isSending (Held c) = false
 isSending Sending = true
 
 -- held, with a criterion smaller than x
-abbrev pub smaller : ℕ → SlotState → Bool
-smaller x Free = false
-smaller x (Held c) = ltb c x
-smaller x Sending = false
+abbrev pub heldBelow : ℕ → SlotState → Bool
+heldBelow x Free = false
+heldBelow x (Held c) = ltb c x
+heldBelow x Sending = false
 
 -- held, with a criterion greater than x
-abbrev pub greater : ℕ → SlotState → Bool
-greater x Free = false
-greater x (Held c) = ltb x c
-greater x Sending = false
+abbrev pub heldAbove : ℕ → SlotState → Bool
+heldAbove x Free = false
+heldAbove x (Held c) = ltb x c
+heldAbove x Sending = false
 
 -- ---- slots that pass a test
 
+-- the lowest that does; the number of slots if none does
 abbrev pub lowestSlot : Slots → (SlotState → Bool) → ℕ
 lowestSlot s test = lowest (s .count) (λ i. test (stateOf s i))
 
+-- none does
 abbrev pub noSlot : Slots → (SlotState → Bool) → Bool
 noSlot s test = allTo (s .count) (λ i. not (test (stateOf s i)))
 
 -- held, and no slot is held with a smaller criterion
 abbrev pub smallestHeld : Slots → SlotState → Bool
 smallestHeld s Free = false
-smallestHeld s (Held c) = noSlot s (smaller c)
+smallestHeld s (Held c) = noSlot s (heldBelow c)
 smallestHeld s Sending = false
 
 -- held, and no slot is held with a greater criterion
 abbrev pub greatestHeld : Slots → SlotState → Bool
 greatestHeld s Free = false
-greatestHeld s (Held c) = noSlot s (greater c)
+greatestHeld s (Held c) = noSlot s (heldAbove c)
 greatestHeld s Sending = false
 
 -- ---- a sound state: at most 32 slots, and at most one sending
@@ -78,7 +80,7 @@ sound s = leb (s .count) 32 && leb (sendingSlots s) 1
 
 -- ---- what a call leaves: its answer, and the slots afterwards
 
-pub record Left : Type 0 where
+pub record SlotsOutcome : Type 0 where
   pub answer : Outcome ℕ
   pub slots : Slots
 
@@ -86,11 +88,11 @@ abbrev pub answerOutcome : Answer → Outcome ℕ
 answerOutcome (Answer.Slot i) = given i
 answerOutcome (Answer.Refused r) = refused (numberOf r)
 
-abbrev pub doneOutcome : Done → Left
+abbrev pub doneOutcome : Done → SlotsOutcome
 doneOutcome d = record { answer = answerOutcome (d .answer); slots = d .slots }
 
 -- refused: the slots are as they were
-abbrev pub refusedBy : ℕ → Slots → Left
+abbrev pub refusedBy : ℕ → Slots → SlotsOutcome
 refusedBy n s = record { answer = refused n; slots = s }
 
 -- slot i has a new state
@@ -98,7 +100,7 @@ abbrev pub changed : Slots → ℕ → SlotState → Slots
 changed s i state = record { slot = set (s .slot) i (record { state = state }); count = s .count }
 
 -- slot i is the answer, and has a new state
-abbrev pub becomes : Slots → ℕ → SlotState → Left
+abbrev pub becomes : Slots → ℕ → SlotState → SlotsOutcome
 becomes s i state = record { answer = given i; slots = changed s i state }
 
 -- what an offer answers: a slot and the number of slots looked at, a refusal with that number, or a refusal alone
@@ -107,7 +109,7 @@ pub data OfferAnswered : Type 0 where
   refusedAfter : ℕ → ℕ → OfferAnswered
   refusedAlone : ℕ → OfferAnswered
 
-pub record OfferLeft : Type 0 where
+pub record OfferOutcome : Type 0 where
   pub answer : OfferAnswered
   pub slots : Slots
 
@@ -116,10 +118,11 @@ offerAnswerOutcome (OfferAnswer.Slot i looked) = takes i looked
 offerAnswerOutcome (OfferAnswer.TurnedAway looked) = refusedAfter (numberOf Refusal.TurnedAway) looked
 offerAnswerOutcome (OfferAnswer.Refused r) = refusedAlone (numberOf r)
 
-abbrev pub offeredOutcome : Offered → OfferLeft
+abbrev pub offeredOutcome : Offered → OfferOutcome
 offeredOutcome r = record { answer = offerAnswerOutcome (r .answer); slots = r .slots }
 
-abbrev pub taken : Slots → ℕ → ℕ → ℕ → OfferLeft
+-- slot i takes the block of criterion x
+abbrev pub taken : Slots → ℕ → ℕ → ℕ → OfferOutcome
 taken s i looked x = record { answer = takes i looked; slots = changed s i (Held x) }
 
 -- ---- the three calls
@@ -130,15 +133,15 @@ lookedAt s = cond (noSlot s isFree) (s .count) (lowestSlot s isFree + 1)
 
 -- A block of criterion x takes the lowest free slot. If none is free it takes the held slot with the smallest criterion, the lowest on a
 -- tie, but only where that criterion is smaller than x.
-unfoldable pub offerOutcome : Slots → ℕ → OfferLeft
+unfoldable pub offerOutcome : Slots → ℕ → OfferOutcome
 offerOutcome s x =
     cond (not (sound s)) (record { answer = refusedAlone 3; slots = s })
     (cond (not (noSlot s isFree)) (taken s (lowestSlot s isFree) (lookedAt s) x)
-    (cond (not (noSlot s (smaller x))) (taken s (lowestSlot s (smallestHeld s)) (lookedAt s) x)
+    (cond (not (noSlot s (heldBelow x))) (taken s (lowestSlot s (smallestHeld s)) (lookedAt s) x)
     (record { answer = refusedAfter 25 (lookedAt s); slots = s })))
 
 -- The held slot with the greatest criterion, the lowest on a tie, begins to send, if none is sending.
-unfoldable pub chooseOutcome : Slots → Left
+unfoldable pub chooseOutcome : Slots → SlotsOutcome
 chooseOutcome s =
     cond (not (sound s)) (refusedBy 3 s)
     (cond (not (noSlot s isSending)) (refusedBy 27 s)
@@ -146,7 +149,7 @@ chooseOutcome s =
     (becomes s (lowestSlot s (greatestHeld s)) Sending)))
 
 -- The sending slot becomes free.
-unfoldable pub finishOutcome : Slots → Left
+unfoldable pub finishOutcome : Slots → SlotsOutcome
 finishOutcome s =
     cond (not (sound s)) (refusedBy 3 s)
     (cond (noSlot s isSending) (refusedBy 28 s)

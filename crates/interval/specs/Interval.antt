@@ -28,10 +28,11 @@ startOf index = lowest (length index) (isGreatest index)
 
 -- ---- growing
 
--- with the bonus, block i comes up to the start
+-- block i joins: its criterion plus the bonus is at least that of the start
 abbrev pub joins : List ℕ → ℕ → ℕ → ℕ → Bool
 joins index bonus start i = leb (criterion index start) (criterion index i + bonus)
 
+-- a `Growing` is an interval, and whether its older and its newer side are open
 abbrev pub blocks : Growing → ℕ
 blocks g = g .last - g .first + 1
 
@@ -48,7 +49,7 @@ tryOlder index bonus limit start g =
     (record { first = g .first; last = g .last; older = false; newer = g .newer }))
     g
 
--- The newer neighbour joins, or the side is closed.
+-- The newer neighbour joins, or the side is closed: it fails, or there is none.
 unfoldable pub tryNewer : List ℕ → ℕ → ℕ → ℕ → Growing → Growing
 tryNewer index bonus limit start g =
     cond (g .newer && ltb (blocks g) limit)
@@ -66,7 +67,8 @@ unfoldable pub grown : List ℕ → ℕ → ℕ → ℕ → ℕ → Growing
 grown index bonus limit start zero = alone start
 grown index bonus limit start (suc n) = tryNewer index bonus limit start (tryOlder index bonus limit start (grown index bonus limit start n))
 
--- As many turns as there are blocks are enough: after them both sides are closed or the limit is reached.
+-- As many turns as there are blocks are enough: after them both sides are closed or the limit is reached (`grown-rests` of
+-- proofs/Growth.antt).
 unfoldable pub intervalOf : List ℕ → ℕ → ℕ → Interval
 intervalOf index bonus limit =
     record {
@@ -78,6 +80,7 @@ abbrev pub intervalAnswerOutcome : IntervalAnswer → Outcome Interval
 intervalAnswerOutcome (IntervalAnswer.Interval i) = given i
 intervalAnswerOutcome (IntervalAnswer.Refused r) = refused (numberOf r)
 
+-- refused by 2, 29, then 26; else the interval
 unfoldable pub intervalOutcome : List ℕ → ℕ → ℕ → Outcome Interval
 intervalOutcome index bonus limit =
     cond (ltb 16000 (length index)) (refused 2)

@@ -44,8 +44,8 @@ fn greatest(index: &[u32]) -> usize
     place
 }
 
-// With the bonus, block i comes up to the start.
-fn comes_up(index: &[u32], bonus: u32, start: usize, i: usize) -> bool
+// Block i joins: its criterion plus the bonus is at least that of the start.
+fn block_joins(index: &[u32], bonus: u32, start: usize, i: usize) -> bool
     requires { ⌜ start < length (now index) ⌝ }
     requires { ⌜ i < length (now index) ⌝ }
     ensures { λ r. ⌜ r ≡ joins (now (index .entry)) bonus start i ⌝ }
@@ -59,7 +59,7 @@ fn older_joins(index: &[u32], bonus: u32, start: usize, first: usize) -> bool
     ensures { λ r. ⌜ r ≡ (ltb 0 first && joins (now (index .entry)) bonus start (first - 1)) ⌝ }
 {
     if 0 < first {
-        comes_up(index, bonus, start, first - 1)
+        block_joins(index, bonus, start, first - 1)
     } else {
         false
     }
@@ -71,7 +71,7 @@ fn newer_joins(index: &[u32], bonus: u32, start: usize, last: usize) -> bool
     ensures { λ r. ⌜ r ≡ (ltb (last + 1) (length (now (index .entry))) && joins (now (index .entry)) bonus start (last + 1)) ⌝ }
 {
     if last + 1 < index.len() {
-        comes_up(index, bonus, start, last + 1)
+        block_joins(index, bonus, start, last + 1)
     } else {
         false
     }

@@ -5,12 +5,12 @@ use mathlib.Core.Bool.{Bool, _&&_, and-true, and-assoc}
 use mathlib.Core.List.{List, [], _∷_, _++_, append-assoc, append-nil}
 use native.Mathlib.Nat.{add-zero, add-suc, zero-mul, suc-mul}
 use native.Mathlib.Numerals.{add-one}
-use lib.ListN.{length, take, drop, length-append}
-use lib.Seq.{take-append-seam, drop-append-seam, drop-drop}
+use lib.ListN.{take, drop}
 use Rattle.lists.specs.Sums.{allTo}
 use Rattle.lists.specs.Tables.{tabulate, overwrite}
 use Rattle.lists.proofs.Sums.{allTo-ext}
 use Rattle.lists.proofs.Tables.{length-tabulate}
+use Rattle.lists.proofs.Overwriting.{overwrite-part}
 
 -- one test more, a run of tests more, and rows of one width
 pub allTo-next : (f : ℕ → Bool) (i : ℕ) → allTo (i + 1) f ≡ allTo i f && f i
@@ -36,13 +36,8 @@ module _ {A : Type 0} where
   tabulate-add f a (suc n) =
       rw add-suc (ap (λ (l : List A). l ++ (f (a + n) ∷ [])) (tabulate-add f a n) ∙ append-assoc (tabulate a f) (tabulate n (λ j. f (a + j))) (f (a + n) ∷ []))
 
-  over-run : (xs ys l : List A) (a n : ℕ) → length xs ≡ a → length ys ≡ n →
-      take a (overwrite xs l) ++ (ys ++ drop n (drop a (overwrite xs l))) ≡ overwrite (xs ++ ys) l
-  over-run xs ys l a n e e′ =
-      rw (← e, ← e′, take-append-seam, drop-append-seam, drop-drop, length-append xs ys, append-assoc)
-
   -- the first entries of a table stand over l, and the n behind them take their place
   pub table-run : (f : ℕ → A) (l : List A) (a n m : ℕ) (l′ ys : List A) → l′ ≡ overwrite (tabulate a f) l →
       ys ≡ tabulate n (λ j. f (a + j)) → m ≡ n → take a l′ ++ (ys ++ drop m (drop a l′)) ≡ overwrite (tabulate (a + n) f) l
   table-run f l a n m l′ ys e q p =
-      rw (e, q, p, tabulate-add f a n) (over-run (tabulate a f) (tabulate n (λ j. f (a + j))) l a n (length-tabulate a f) (length-tabulate n _))
+      rw (e, q, p, tabulate-add f a n) (overwrite-part (tabulate a f) (tabulate n (λ j. f (a + j))) l a n (length-tabulate a f) (length-tabulate n _))

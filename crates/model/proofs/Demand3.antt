@@ -8,14 +8,14 @@ use Rattle.codes.specs.Bounds.{MeanBounds}
 use Rattle.codes.proofs.Laws.{band-mean, band-mono}
 use Rattle.bands.specs.Band.{sizeExponent}
 use Rattle.bands.proofs.Power.{width-pos}
-use Rattle.registers.specs.Settings.{settingOf}
+use Rattle.settings.specs.Settings.{settingOf}
 use Rattle.registers.specs.declared.Registers.{Registers}
-use Rattle.registers.proofs.Settings.{averaged-pos}
+use Rattle.settings.proofs.Settings.{averaged-pos}
 use Rattle.model.specs.Reply.{reported}
 use Rattle.model.specs.Report.{divisor, mean}
 use Rattle.model.specs.Reference.{Reference, entry, after, spectraTotal}
 use Rattle.model.specs.Calls.{Memory, Call, Typed, performAll, perform, inputOf, outOf, writtenBy, begin}
-use Rattle.model.specs.Demand.{AllTyped, printedValue, Slot, Agrees, Run, modelOf, performed, Reports, NoSmaller, Demand3}
+use Rattle.model.specs.Demand.{AllTyped, printedValue, ReportedBand, Agrees, Run, modelOf, performed, Reports, NoSmaller, Demand3}
 use Rattle.model.proofs.SpectraTotals.{spectraTotal-mono}
 use Rattle.model.proofs.Invariant.{Represents, Good, begun-represents, begun-good}
 use Rattle.model.proofs.Reports.{GoodReport, printed-mean}
@@ -29,9 +29,9 @@ divisor-pos r b = mul-pos (averaged-pos r) (width-pos (sizeExponent (settingOf r
 
 record Report (r : Registers) (sp : List (List ℕ)) (out : List ℕ) : Type 0 where
   good : GoodReport r sp
-  value : (n b : ℕ) → Slot r n b → printedValue r out n b ≡ bandValue (bandCode (mean r (spectraTotal r sp) n b))
+  value : (n b : ℕ) → ReportedBand r n b → printedValue r out n b ≡ bandValue (bandCode (mean r (spectraTotal r sp) n b))
 
-module _ (r : Registers) (n b : ℕ) (s : Slot r n b) where
+module _ (r : Registers) (n b : ℕ) (s : ReportedBand r n b) where
   near : {sp : List (List ℕ)} {out : List ℕ} → Report r sp out → MeanBounds (divisor r b) (spectraTotal r sp n b) (printedValue r out n b)
   near {sp} p = rw (p .value n b s) (band-mean (divisor r b) (spectraTotal r sp n b) (divisor-pos r b))
 

@@ -15,7 +15,7 @@ use Rattle.lists.proofs.Choices.{cond-same}
 use Rattle.lists.proofs.Sums.{allTo-of}
 use Rattle.lists.proofs.Tables.{length-grid, getD-grid, grid-of, grid-ext}
 use Rattle.registers.specs.Access.{atReset, registersSound}
-use Rattle.registers.specs.Settings.{bandsOf, enabledOf}
+use Rattle.settings.specs.Settings.{bandsOf, enabledOf}
 use Rattle.registers.specs.declared.Registers.{Registers}
 use Rattle.registers.proofs.Theorems.{reset-sound}
 use Rattle.model.specs.Totals.{inUse, widthOf, slot, noTotals, added}

@@ -1,6 +1,6 @@
 -- A call keeps the model's numbers good, is refused by 1 or 2 if at all, and reports on N spectra of 32-bit powers. Assumes nothing.
 use Prim.Native.Nat.{ℕ, _-_, _<_}
-use mathlib.Core.Path.{_≡_, sym, ap, _∙_}
+use mathlib.Core.Path.{_≡_, sym, ap, subst, _∙_}
 use mathlib.Core.Bool.{true, not, true≢false, _&&_}
 use mathlib.Core.List.{List, [], _∷_, _++_}
 use native.Mathlib.Omega.{arith}
@@ -9,7 +9,7 @@ use lib.Dec.{eqb, ltb, leb, lit<}
 use borrow.Author.Tests.{not-false}
 use Rattle.lists.proofs.Choices.{cond-at}
 use Rattle.registers.specs.Access.{isId}
-use Rattle.registers.specs.Settings.{averagedSpectra, runningOf}
+use Rattle.settings.specs.Settings.{averagedSpectra, runningOf}
 use Rattle.registers.specs.declared.Registers.{Registers}
 use Rattle.registers.proofs.Theorems.{write-sound}
 use Rattle.model.specs.Reply.{Reply, refused, stores, idle, collected, waiting, reported}
@@ -18,7 +18,7 @@ use Rattle.model.specs.Board.{spectraHeld}
 use Rattle.model.specs.Reference.{Reference, Input, Entry, onward, entryRunning, entry, spectraTotal}
 use Rattle.model.specs.Calls.{Powers, Call, command, tick, Typed, inputOf, passedLength, answerOf}
 use Rattle.model.proofs.SpectraTotals.{AllPowers, powers-snoc}
-use Rattle.model.proofs.Phases.{nextPhase, phase-next, held-collecting, held-reporting, next-collecting, next-other}
+use Rattle.model.proofs.Phases.{byBoardCases, entry-cases, nextPhase, phase-next, held-collecting, held-reporting, next-collecting, next-other}
 use Rattle.model.proofs.Invariant.{Good, fresh-good}
 use Rattle.model.proofs.Reports.{GoodReport, model-accepts}
 
@@ -75,8 +75,8 @@ module _ (m : Reference) (g : Good m) where
       cond-at (GoodEntry r) (not (eqb (length ps) 7168 && eqb n 784 && leb 1176 o)) (λ e. record { reply = lit< tt; next = g }) (λ e.
       cond-at (GoodEntry r) (not (runningOf r)) (λ e. record { reply = tt; next = g }) (λ e. runs (not-false (runningOf r) e)))
     where
-      runs : runningOf r ≡ true → GoodEntry r (entryRunning m (m .spectra ++ (ps ∷ [])))
-      runs run =
+      by-cases : runningOf r ≡ true → GoodEntry r (byBoardCases m (m .spectra ++ (ps ∷ [])))
+      by-cases run =
           cond-at (GoodEntry r) (ltb (m .phase) (averagedSpectra r - 1))
           (λ c. record { reply = tt; next = onward-good _ run (one-more ps run c) (powers-snoc (m .spectra) ps (g .powers) h) })
           (λ c. let rest = onward-good [] run (sym (next-other r run (m .phase) c)) tt in
@@ -85,6 +85,9 @@ module _ (m : Reference) (g : Good m) where
           (λ e. absurd (true≢false (sym e ∙ ap not (model-accepts r (m .spectra ++ (ps ∷ [])) (report-good run ps h q)))))
           (λ e. record { reply = report-good run ps h q; next = rest }))
           (λ q. record { reply = tt; next = rest }))
+
+      runs : runningOf r ≡ true → GoodEntry r (entryRunning m (m .spectra ++ (ps ∷ [])))
+      runs run = subst (GoodEntry r) (entry-cases m (m .spectra ++ (ps ∷ []))) (by-cases run)
 
   pub keeps : (c : Call) → Typed c → GoodEntry r (entry m (inputOf c))
   keeps (command id v t) h = keeps-command id v (passedLength t)

@@ -2,14 +2,37 @@
 use Prim.Native.Nat.{ℕ, _+_, _-_, _≤_, _<_}
 use mathlib.Core.Path.{_≡_, refl, sym, ap, _∙_, subst}
 use mathlib.Core.Bool.{true, false, cond, _&&_}
+use mathlib.Core.List.{List, []}
 use native.Mathlib.Omega.{arith}
-use lib.Dec.{ltb, eqb, lit≤}
-use borrow.Author.Tests.{ltb-true, ltb-false, eqb-true, eqb-false, lt-ltb, le-ltb, ne-eqb}
-use Rattle.lists.proofs.Choices.{both, cond-at, cond-same, cond-true, cond-false}
-use Rattle.registers.specs.Settings.{averagedSpectra, periodTicks, runningOf}
+use lib.Dec.{leb, ltb, eqb, lit≤}
+use borrow.Author.Tests.{ltb-true, ltb-false, eqb-true, eqb-false, lt-ltb, le-ltb, lt-leb, le-leb, ne-eqb}
+use Rattle.lists.proofs.Choices.{by-cases, both, cond-at, cond-same, cond-true, cond-false}
+use Rattle.settings.specs.Settings.{averagedSpectra, periodTicks, runningOf}
 use Rattle.registers.specs.declared.Registers.{Registers}
-use Rattle.registers.proofs.Settings.{averaged-pos, averaged-le, period-pos, running-le}
+use Rattle.settings.proofs.Settings.{averaged-pos, averaged-le, period-pos, running-le}
+use Rattle.model.specs.Reply.{collected, waiting}
 use Rattle.model.specs.Board.{phaseSound, spectraHeld}
+use Rattle.model.specs.Reference.{Reference, Entry, onward, entryReport, entryRunning}
+
+-- the book's three cases of a tick when running are the board's
+running-cases : {A : Type 0} (p n : ℕ) (collects reports waits : A) → 0 < n →
+    cond (leb n p) waits (cond (eqb p (n - 1)) reports collects) ≡ cond (ltb p (n - 1)) collects (cond (eqb p (n - 1)) reports waits)
+running-cases p n collects reports waits h =
+    by-cases (ltb p (n - 1))
+    (λ e. let l = ltb-true p (n - 1) e in rw (e, lt-leb n p (omega arith), ne-eqb p (n - 1) (λ q. omega arith)))
+    (λ e. let l = ltb-false p (n - 1) e in
+    by-cases (eqb p (n - 1))
+    (λ q. let s = eqb-true p (n - 1) q in rw (e, q, lt-leb n p (omega arith)))
+    (λ q. let d = eqb-false p (n - 1) q in rw (e, q, le-leb n p (omega arith))))
+
+abbrev pub byBoardCases : Reference → List (List ℕ) → Entry
+byBoardCases m spectra =
+    cond (ltb (m .phase) (averagedSpectra (m .registers) - 1)) (record { reply = collected; next = onward m spectra })
+    (cond (eqb (m .phase) (averagedSpectra (m .registers) - 1)) (entryReport m spectra)
+    (record { reply = waiting; next = onward m [] }))
+
+pub entry-cases : (m : Reference) (spectra : List (List ℕ)) → byBoardCases m spectra ≡ entryRunning m spectra
+entry-cases m spectra = sym (running-cases (m .phase) (averagedSpectra (m .registers)) _ _ _ (averaged-pos (m .registers)))
 
 -- the phase after p
 abbrev pub nextPhase : Registers → ℕ → ℕ

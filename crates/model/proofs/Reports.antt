@@ -13,18 +13,18 @@ use Rattle.lists.proofs.Choices.{cond-both, cond-true, cond-at}
 use Rattle.lists.proofs.Sums.{allTo-of}
 use Rattle.lists.proofs.Tables.{concatTo-ext, length-concatTo, length-parts, getD-concatTo, getD-concatTo-then}
 use Rattle.codes.specs.Code.{bandCode, bandValue}
-use Rattle.registers.specs.Settings.{averagedSpectra, enabledOf, enabledBefore, bandsOf}
+use Rattle.settings.specs.Settings.{averagedSpectra, enabledOf, enabledBefore, bandsOf}
 use Rattle.registers.specs.declared.Registers.{Registers}
-use Rattle.registers.proofs.Settings.{bands-le, bands-even}
+use Rattle.settings.proofs.Settings.{bands-le, bands-even}
 use Rattle.model.specs.Totals.{slot}
 use Rattle.model.specs.Report.{divisor, mean, specWord, processorBytes, reportBytes, meansWithin}
 use Rattle.model.specs.Reference.{spectraTotal}
-use Rattle.model.specs.Demand.{Slot, wordOf, byteInWord, printedValue}
+use Rattle.model.specs.Demand.{ReportedBand, wordOf, byteInWord, printedValue}
 use Rattle.model.proofs.SpectraTotals.{AllPowers, spectraTotal-le}
 use Rattle.model.proofs.Invariant.{heldTotals, slot-of-held}
 
 -- The totals held are, slot by slot, the spectra's.
-pub slot-held : (r : Registers) (sp : List (List ℕ)) (n b : ℕ) → Slot r n b → slot (heldTotals r sp) n b ≡ spectraTotal r sp n b
+pub slot-held : (r : Registers) (sp : List (List ℕ)) (n b : ℕ) → ReportedBand r n b → slot (heldTotals r sp) n b ≡ spectraTotal r sp n b
 slot-held r sp n b s =
     rw (slot-of-held r sp n b (s .processor) (omega (arith, s .band, bands-le r)))
     (cond-true (enabledOf r n && ltb b (bandsOf r)) _ 0 (and-eq-true-iff (enabledOf r n) (ltb b (bandsOf r)) .1 (s .enabled, lt-ltb b _ (s .band))))
@@ -36,7 +36,7 @@ word-ext m m′ j p q = rw (p, q)
 pub words-ext : (k : ℕ) (m m′ : ℕ → ℕ) → ((b : ℕ) → b < 2 * k → m b ≡ m′ b) → concatTo k (specWord m) ≡ concatTo k (specWord m′)
 words-ext k m m′ h = concatTo-ext k _ _ (λ j l. word-ext m m′ j (h (2 * j + 1) (omega arith)) (h (2 * j) (omega arith)))
 
-pub report-ext : (r : Registers) (t t′ : ℕ → ℕ → ℕ) → ((n b : ℕ) → Slot r n b → t n b ≡ t′ n b) → reportBytes r t ≡ reportBytes r t′
+pub report-ext : (r : Registers) (t t′ : ℕ → ℕ → ℕ) → ((n b : ℕ) → ReportedBand r n b → t n b ≡ t′ n b) → reportBytes r t ≡ reportBytes r t′
 unfolding reportBytes processorBytes
 report-ext r t t′ h =
     concatTo-ext 7 _ _ (λ n l. cond-both (λ x. x) (λ x. x) (enabledOf r n) (λ on.
@@ -50,7 +50,7 @@ pub record GoodReport (r : Registers) (sp : List (List ℕ)) : Type 0 where
 pub mean-within : (r : Registers) (sp : List (List ℕ)) → GoodReport r sp → (n b : ℕ) → b < bandsOf r → spectraTotal r sp n b ≤ divisor r b * (2 ^ 32 - 1)
 mean-within r sp g n b l = rw (← g .count) (spectraTotal-le r n b l sp (g .powers))
 
-pub means-within : (r : Registers) (t : ℕ → ℕ → ℕ) → ((n b : ℕ) → Slot r n b → t n b ≤ divisor r b * (2 ^ 32 - 1)) → meansWithin r t ≡ true
+pub means-within : (r : Registers) (t : ℕ → ℕ → ℕ) → ((n b : ℕ) → ReportedBand r n b → t n b ≤ divisor r b * (2 ^ 32 - 1)) → meansWithin r t ≡ true
 unfolding meansWithin
 means-within r t h =
     allTo-of 7 _ (λ n l. implies (enabledOf r n) (λ on. allTo-of (bandsOf r) _ (λ b k.
@@ -106,7 +106,7 @@ module _ (r : Registers) (t : ℕ → ℕ → ℕ) where
   unfolding processorBytes
   processor-on n on = cond-true (enabledOf r n) _ [] on
 
-  in-report : (n b : ℕ) → Slot r n b → (z : List ℕ) →
+  in-report : (n b : ℕ) → ReportedBand r n b → (z : List ℕ) →
       getD (reportBytes r t ++ z) (3 * wordOf r n b + byteInWord b) 0 ≡ bandCode (mean r t n b)
   unfolding reportBytes
   in-report n b s z =
@@ -119,6 +119,6 @@ module _ (r : Registers) (t : ℕ → ℕ → ℕ) where
       (in-processor (mean r t n) b words l)
 
 -- V of a report is what the code of the mean stands for.
-pub printed-mean : (r : Registers) (t : ℕ → ℕ → ℕ) (n b : ℕ) → Slot r n b → (out : List ℕ) →
+pub printed-mean : (r : Registers) (t : ℕ → ℕ → ℕ) (n b : ℕ) → ReportedBand r n b → (out : List ℕ) →
     printedValue r (overwrite (reportBytes r t) out) n b ≡ bandValue (bandCode (mean r t n b))
 printed-mean r t n b s out = ap bandValue (in-report r t n b s (drop (length (reportBytes r t)) out))

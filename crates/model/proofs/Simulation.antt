@@ -1,6 +1,6 @@
 -- A call on the board follows the reference model's entry for it. Assumes nothing.
 use Prim.Native.Nat.{ℕ, _-_}
-use mathlib.Core.Path.{_≡_, refl, sym, ap, ap₂, _∙_}
+use mathlib.Core.Path.{_≡_, refl, sym, ap, ap₂, subst, _∙_}
 use mathlib.Core.Bool.{Bool, true, false, not, _&&_, and-false}
 use mathlib.Core.List.{List, [], _∷_, _++_}
 use native.Mathlib.Omega.{arith}
@@ -10,7 +10,7 @@ use borrow.Author.Tests.{ne-eqb, not-false}
 use Rattle.lists.specs.Tables.{overwrite}
 use Rattle.lists.proofs.Choices.{cond-related}
 use Rattle.registers.specs.Access.{isId, storedTo}
-use Rattle.registers.specs.Settings.{averagedSpectra, runningOf, specWords}
+use Rattle.settings.specs.Settings.{averagedSpectra, runningOf, specWords}
 use Rattle.registers.specs.declared.Registers.{Registers}
 use Rattle.model.specs.Reply.{waiting, reported}
 use Rattle.model.specs.Totals.{slot, added}
@@ -18,7 +18,7 @@ use Rattle.model.specs.Report.{reportBytes, meansWithin}
 use Rattle.model.specs.Board.{CommandOutcome, TickOutcome, lengthsFit, reportOutcome, runningOutcome, commandOutcome, tickOutcome}
 use Rattle.model.specs.Reference.{Reference, Entry, entryReport, entryRunning, entry, spectraTotal}
 use Rattle.model.specs.Calls.{Powers, TotalsPassed, current, wrong, Memory, Call, command, tick, Typed, Performed, performCommand, performTick, perform, inputOf, outOf, answerOf, writtenBy}
-use Rattle.model.proofs.Phases.{nextPhase, held-waiting}
+use Rattle.model.proofs.Phases.{byBoardCases, entry-cases, nextPhase, held-waiting}
 use Rattle.model.proofs.Invariant.{heldTotals, Represents, Good, memory-sound, memory-length, held-no, held-added}
 use Rattle.model.proofs.Reports.{GoodReport, slot-held, report-ext, model-accepts, board-accepts}
 use Rattle.model.proofs.Keeps.{report-good}
@@ -91,9 +91,9 @@ module _ (m : Reference) (g : Good m) (x : Memory) (h : Represents m x) where
           next = record { registers = h .registers; phase = phase-follows; totals = held-no r };
         })
 
-    follows-running : FollowsTick out (runningOutcome (x .state) (x .totals) (added (x .state .registers) (x .totals) ps) out) (entryRunning m sp)
+    by-cases : FollowsTick out (runningOutcome (x .state) (x .totals) (added (x .state .registers) (x .totals) ps) out) (byBoardCases m sp)
     unfolding runningOutcome
-    follows-running =
+    by-cases =
         cond-related (FollowsTick out) (ltb (x .state .phase) (averagedSpectra (x .state .registers) - 1)) (ltb (m .phase) (averagedSpectra r - 1))
         (ap₂ (λ q p. ltb p (averagedSpectra q - 1)) (h .registers) (h .phase))
         (λ c. record { answer = refl; out = refl; next = record { registers = h .registers; phase = phase-follows; totals = sums } })
@@ -109,6 +109,9 @@ module _ (m : Reference) (g : Good m) (x : Memory) (h : Represents m x) where
             totals = h .totals ∙ ap (heldTotals r) (no-length (m .spectra) (g .held ∙ held-waiting r run (m .phase) c q));
           };
         }))
+
+    follows-running : FollowsTick out (runningOutcome (x .state) (x .totals) (added (x .state .registers) (x .totals) ps) out) (entryRunning m sp)
+    follows-running = subst (FollowsTick out _) (entry-cases m sp) by-cases
 
   follows-tick : (ps out : List ℕ) (t : TotalsPassed) → Powers ps → Follows r out (entry m (inputOf (tick ps t out))) (perform x (tick ps t out))
   unfolding entry tickOutcome

@@ -7,7 +7,7 @@ use native.Mathlib.Nat.{add-le-add, add-mul, suc-mul}
 use lib.ListN.{length, getD}
 use Rattle.bands.specs.Band.{sizeExponent}
 use Rattle.bands.proofs.Power.{bandSum-le, bandSum-mono}
-use Rattle.registers.specs.Settings.{settingOf, bandsOf}
+use Rattle.settings.specs.Settings.{settingOf, bandsOf}
 use Rattle.registers.specs.declared.Registers.{Registers}
 use Rattle.model.specs.Totals.{power, bandPower, widthOf}
 use Rattle.model.specs.Reference.{spectraTotal}

@@ -17,15 +17,15 @@ use Rattle.bands.specs.Band.{sizeExponent}
 use Rattle.bands.proofs.Power.{bandSum-ext}
 use Rattle.registers.specs.Access.{isId, register}
 use Rattle.registers.specs.Store.{stored}
-use Rattle.registers.specs.Settings.{settingOf, bandsOf, averagedSpectra, enabledOf, runningOf}
+use Rattle.settings.specs.Settings.{settingOf, bandsOf, averagedSpectra, enabledOf, runningOf}
 use Rattle.registers.specs.declared.Registers.{Registers}
-use Rattle.registers.proofs.Settings.{bands-le}
+use Rattle.settings.proofs.Settings.{bands-le}
 use Rattle.model.specs.Reply.{Reply, refused, stores, idle, collected, waiting, reported}
 use Rattle.model.specs.Totals.{inUse, widthOf, power, bandPower, slot, added}
 use Rattle.model.specs.Report.{divisor, meansWithin}
 use Rattle.model.specs.Board.{spectraHeld, stateSound, lengthsFit, CommandOutcome, commandOutcome, TickOutcome, reportOutcome, runningOutcome, tickOutcome}
 use Rattle.model.specs.Calls.{Powers}
-use Rattle.model.specs.Demand.{Slot}
+use Rattle.model.specs.Demand.{ReportedBand}
 use Rattle.model.specs.declared.State.{State}
 use Rattle.model.proofs.SpectraTotals.{bandPower-le}
 use Rattle.model.proofs.Phases.{held-reporting}
@@ -90,11 +90,11 @@ one-register s totals id v n other =
 
 -- ---- from a sound state no report meets a band mean over 2 ^ 32 - 1
 
-in-use : (r : Registers) (n b : ℕ) → Slot r n b → inUse r n b ≡ true
+in-use : (r : Registers) (n b : ℕ) → ReportedBand r n b → inUse r n b ≡ true
 in-use r n b u = rw (u .enabled, lt-ltb b (bandsOf r) (u .band))
 
 -- what a slot in use has after the tick
-slot-le : (s : State) (totals ps : List ℕ) → Sound s totals → Powers ps → (n b : ℕ) → Slot (s .registers) n b →
+slot-le : (s : State) (totals ps : List ℕ) → Sound s totals → Powers ps → (n b : ℕ) → ReportedBand (s .registers) n b →
     slot (added (s .registers) totals ps) n b ≤ (spectraHeld (s .registers) (s .phase) + 1) * widthOf (s .registers) b * (2 ^ 32 - 1)
 unfolding added
 slot-le s totals ps h k n b u =

@@ -7,7 +7,7 @@ use lib.Dec.{lit<}
 use Rattle.lists.specs.Sums.{sumTo}
 use Rattle.registers.specs.Store.{highStored, lowStored, storedAt}
 use Rattle.registers.specs.Access.{atReset, storedTo}
-use Rattle.registers.specs.Settings.{averagedSpectra, periodTicks, enabledOf, runningOf}
+use Rattle.settings.specs.Settings.{averagedSpectra, periodTicks, enabledOf, runningOf}
 use Rattle.registers.specs.declared.Registers.{Registers}
 use Rattle.model.specs.Reference.{entry}
 use Rattle.model.specs.Calls.{Powers, Call, command, tick, current}

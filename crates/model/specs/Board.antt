@@ -1,7 +1,7 @@
 -- 01, "Periods" and "Refusal numbers": what a command and a tick do to the state, the totals passed and the output passed. The functions
 -- `command` and `tick` of crate `board` ensure these definitions, and demand 3 is proved of them.
 use Prim.Native.Nat.{ℕ, _+_, _-_, _*_, _^_}
-use mathlib.Core.Bool.{Bool, cond, _&&_, _||_, not}
+use mathlib.Core.Bool.{Bool, cond, _&&_, not}
 use mathlib.Core.List.{List}
 use lib.ListN.{length}
 use lib.Dec.{leb, ltb, eqb}
@@ -10,7 +10,7 @@ use Rattle.lists.specs.Tables.{overwrite}
 use Rattle.refusal.specs.Number.{numberOf}
 use Rattle.registers.specs.Store.{stored}
 use Rattle.registers.specs.Access.{isId, atReset, storedTo, registersSound}
-use Rattle.registers.specs.Settings.{averagedSpectra, periodTicks, runningOf, specWords}
+use Rattle.settings.specs.Settings.{averagedSpectra, periodTicks, runningOf, specWords}
 use Rattle.registers.specs.declared.Registers.{Registers}
 use Rattle.registers.specs.declared.Answer.{Answer}
 use Rattle.model.specs.Reply.{Reply, refused, stores, idle, collected, waiting, reported}
@@ -32,6 +32,7 @@ spectraHeld r p = cond (runningOf r && ltb p (averagedSpectra r)) p 0
 abbrev pub slotLimit : Registers → ℕ → ℕ → ℕ → ℕ
 slotLimit r m n b = cond (inUse r n b) (m * widthOf r b * (2 ^ 32 - 1)) 0
 
+-- no total is above its limit for m spectra
 unfoldable pub totalsWithin : Registers → ℕ → List ℕ → Bool
 totalsWithin r m totals = allTo 7 (λ n. allTo 112 (λ b. leb (slot totals n b) (slotLimit r m n b)))
 
@@ -94,8 +95,8 @@ abbrev pub atNextPhase : State → State
 atNextPhase s = record { registers = s .registers; phase = cond (eqb (s .phase) (periodTicks (s .registers) - 1)) 0 (s .phase + 1) }
 
 -- a tick that writes no output
-abbrev pub unwritten : Reply ℕ → State → List ℕ → List ℕ → TickOutcome
-unwritten a s totals out = record { answer = a; state = s; totals = totals; out = out }
+abbrev pub withoutReport : Reply ℕ → State → List ℕ → List ℕ → TickOutcome
+withoutReport a s totals out = record { answer = a; state = s; totals = totals; out = out }
 
 -- the report; sums are the totals with the tick's powers added
 abbrev pub tickReported : State → List ℕ → List ℕ → TickOutcome
@@ -110,14 +111,14 @@ tickReported s sums out =
 -- at phase N - 1: refused by 13, else reported
 unfoldable pub reportOutcome : State → List ℕ → List ℕ → List ℕ → TickOutcome
 reportOutcome s totals sums out =
-    cond (not (meansWithin (s .registers) (slot sums))) (unwritten (refused 13) s totals out) (tickReported s sums out)
+    cond (not (meansWithin (s .registers) (slot sums))) (withoutReport (refused 13) s totals out) (tickReported s sums out)
 
 -- a tick of a running board at phase p: collected at p < N - 1, reported at p = N - 1, waiting at p ≥ N
 unfoldable pub runningOutcome : State → List ℕ → List ℕ → List ℕ → TickOutcome
 runningOutcome s totals sums out =
-    cond (ltb (s .phase) (averagedSpectra (s .registers) - 1)) (unwritten collected (atNextPhase s) sums out)
+    cond (ltb (s .phase) (averagedSpectra (s .registers) - 1)) (withoutReport collected (atNextPhase s) sums out)
     (cond (eqb (s .phase) (averagedSpectra (s .registers) - 1)) (reportOutcome s totals sums out)
-    (unwritten waiting (atNextPhase s) totals out))
+    (withoutReport waiting (atNextPhase s) totals out))
 
 -- the lengths of powers, totals and output that refusal 2 asks
 abbrev pub lengthsFit : ℕ → ℕ → ℕ → Bool
@@ -126,7 +127,7 @@ lengthsFit powers totals out = eqb powers 7168 && eqb totals 784 && leb 1176 out
 -- a tick: refused by 2, 3, then 13; idle when not running
 unfoldable pub tickOutcome : State → List ℕ → List ℕ → List ℕ → TickOutcome
 tickOutcome s totals powers out =
-    cond (not (lengthsFit (length powers) (length totals) (length out))) (unwritten (refused 2) s totals out)
-    (cond (not (stateSound s totals)) (unwritten (refused 3) s totals out)
-    (cond (not (runningOf (s .registers))) (unwritten idle s totals out)
+    cond (not (lengthsFit (length powers) (length totals) (length out))) (withoutReport (refused 2) s totals out)
+    (cond (not (stateSound s totals)) (withoutReport (refused 3) s totals out)
+    (cond (not (runningOf (s .registers))) (withoutReport idle s totals out)
     (runningOutcome s totals (added (s .registers) totals powers) out)))

@@ -5,7 +5,7 @@ use mathlib.Core.Path.{_≡_}
 use mathlib.Core.List.{List, [], _∷_}
 use lib.ListN.{length, getD}
 use Rattle.lists.specs.Tables.{overwrite}
-use Rattle.registers.specs.Settings.{specWords}
+use Rattle.settings.specs.Settings.{specWords}
 use Rattle.registers.specs.declared.Registers.{Registers}
 use Rattle.model.specs.Reply.{Reply, refused, stores, idle, collected, waiting, reported}
 use Rattle.model.specs.Report.{reportBytes}

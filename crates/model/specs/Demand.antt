@@ -7,7 +7,7 @@ use lib.ListN.{length, getD}
 use lib.Dec.{eqb}
 use Rattle.codes.specs.Code.{bandValue}
 use Rattle.codes.specs.Bounds.{MeanBounds}
-use Rattle.registers.specs.Settings.{bandsOf, averagedSpectra, enabledOf, enabledBefore}
+use Rattle.settings.specs.Settings.{bandsOf, averagedSpectra, enabledOf, enabledBefore, wordsEach}
 use Rattle.registers.specs.declared.Registers.{Registers}
 use Rattle.model.specs.Reply.{refused, reported}
 use Rattle.model.specs.Totals.{power, noTotals}
@@ -19,14 +19,14 @@ use Rattle.model.specs.Calls.{Memory, Call, Typed, Performed, perform, p
 -- ---- a printed value
 
 -- an enabled processor n and a band b of it
-pub record Slot (r : Registers) (n b : ℕ) : Type 0 where
+pub record ReportedBand (r : Registers) (n b : ℕ) : Type 0 where
   pub processor : n < 7
   pub enabled : enabledOf r n ≡ true
   pub band : b < bandsOf r
 
--- its word: behind those of the enabled processors before n, half as many as bands each
+-- its word: behind those of the enabled processors before n
 abbrev pub wordOf : Registers → ℕ → ℕ → ℕ
-wordOf r n b = enabledBefore r n * (bandsOf r / 2) + b / 2
+wordOf r n b = enabledBefore r n * wordsEach r + b / 2
 
 -- its byte in the word: bits 15:8 for an odd band, which stand before bits 7:0
 abbrev pub byteInWord : ℕ → ℕ
@@ -46,7 +46,7 @@ pub record Agrees (m : Reference) (c : Call) (p : Performed) : Type 0 where
   pub answer : p .answer ≡ answerOf (m .registers) (entry m (inputOf c) .reply)
   pub out : p .out ≡ writtenBy (m .registers) (entry m (inputOf c) .reply) (outOf c)
   pub count : (sp : List (List ℕ)) → entry m (inputOf c) .reply ≡ reported sp → length sp ≡ averagedSpectra (m .registers)
-  pub near : (sp : List (List ℕ)) → entry m (inputOf c) .reply ≡ reported sp → (n b : ℕ) → Slot (m .registers) n b →
+  pub near : (sp : List (List ℕ)) → entry m (inputOf c) .reply ≡ reported sp → (n b : ℕ) → ReportedBand (m .registers) n b →
       MeanBounds (divisor (m .registers) b) (spectraTotal (m .registers) sp n b) (printedValue (m .registers) (p .out) n b)
 
 -- ---- whole lists
@@ -92,10 +92,10 @@ NoSmaller r sp sp′ =
 pub record Demand3 : Type 0 where
   -- each call agrees with the reference model
   pub agrees : (x : Run) → Agrees (modelOf x) (x .last) (performed x)
-  -- a refusal is 1 or 2: refusal 3 never comes, and neither does 13
+  -- no refusal is 3 or more: refusal 3 never comes, and neither does 13
   pub refusals : (x : Run) (n : ℕ) → performed x .answer ≡ refused n → n < 3
   -- of two reports with equal settings and no smaller powers in the second, no printed value is smaller in the second
   pub ordered : (x y : Run) (sp sp′ : List (List ℕ)) → Reports x sp → Reports y sp′ →
       modelOf x .registers ≡ modelOf y .registers → NoSmaller (modelOf x .registers) sp sp′ →
-      (n b : ℕ) → Slot (modelOf x .registers) n b →
+      (n b : ℕ) → ReportedBand (modelOf x .registers) n b →
       printedValue (modelOf x .registers) (performed x .out) n b ≤ printedValue (modelOf x .registers) (performed y .out) n b

@@ -1,13 +1,13 @@
 -- 01, "Demand 3 and its plain book": the reference model, which is that book. It holds registers, a phase and spectra, takes what a caller
 -- hands in, and nothing of the board's state, totals or answers. It imports nothing of `Board`.
 use Prim.Native.Nat.{ℕ, _+_, _-_}
-use mathlib.Core.Bool.{Bool, cond, not, _&&_}
+use mathlib.Core.Bool.{cond, not, _&&_}
 use mathlib.Core.List.{List, [], _∷_, _++_}
 use lib.ListN.{length}
-use lib.Dec.{leb, ltb, eqb}
+use lib.Dec.{leb, eqb}
 use Rattle.registers.specs.Store.{stored}
 use Rattle.registers.specs.Access.{isId, storedTo}
-use Rattle.registers.specs.Settings.{averagedSpectra, periodTicks, runningOf}
+use Rattle.settings.specs.Settings.{averagedSpectra, periodTicks, runningOf}
 use Rattle.registers.specs.declared.Registers.{Registers}
 use Rattle.model.specs.Reply.{Reply, refused, stores, idle, collected, waiting, reported}
 use Rattle.model.specs.Totals.{bandPower}
@@ -56,12 +56,13 @@ entryReport m spectra =
     cond (not (meansWithin (m .registers) (spectraTotal (m .registers) spectra))) (entryRefused m 13)
     (record { reply = reported spectra; next = onward m [] })
 
--- a tick when running: at p < N it keeps the tick's rows as one spectrum, and at p ≥ N nothing; spectra has the tick's rows too
+-- a tick when running: at p ≥ N it keeps nothing; at p < N it keeps the tick's rows as one spectrum, which spectra has too, and at
+-- p = N - 1 it then reports
 abbrev pub entryRunning : Reference → List (List ℕ) → Entry
 entryRunning m spectra =
-    cond (ltb (m .phase) (averagedSpectra (m .registers) - 1)) (record { reply = collected; next = onward m spectra })
+    cond (leb (averagedSpectra (m .registers)) (m .phase)) (record { reply = waiting; next = onward m [] })
     (cond (eqb (m .phase) (averagedSpectra (m .registers) - 1)) (entryReport m spectra)
-    (record { reply = waiting; next = onward m [] }))
+    (record { reply = collected; next = onward m spectra }))
 
 -- a tick: refused by 2; not running, it changes nothing
 abbrev pub entryTick : Reference → List ℕ → ℕ → ℕ → Entry

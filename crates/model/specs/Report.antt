@@ -7,7 +7,7 @@ use lib.Dec.{leb}
 use Rattle.lists.specs.Sums.{allTo}
 use Rattle.lists.specs.Tables.{concatTo}
 use Rattle.codes.specs.Code.{bandCode}
-use Rattle.registers.specs.Settings.{bandsOf, averagedSpectra, enabledOf}
+use Rattle.settings.specs.Settings.{bandsOf, averagedSpectra, enabledOf, wordsEach}
 use Rattle.registers.specs.declared.Registers.{Registers}
 use Rattle.model.specs.Totals.{widthOf}
 
@@ -25,7 +25,7 @@ specWord m j = 0x4E ∷ bandCode (m (2 * j + 1)) ∷ bandCode (m (2 * j)) ∷ []
 
 -- the words of processor n: 18, 32 or 56 if it is enabled, two bands each
 unfoldable pub processorBytes : Registers → (ℕ → ℕ → ℕ) → ℕ → List ℕ
-processorBytes r t n = cond (enabledOf r n) (concatTo (bandsOf r / 2) (specWord (mean r t n))) []
+processorBytes r t n = cond (enabledOf r n) (concatTo (wordsEach r) (specWord (mean r t n))) []
 
 -- the enabled processors in rising order
 unfoldable pub reportBytes : Registers → (ℕ → ℕ → ℕ) → List ℕ

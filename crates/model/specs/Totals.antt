@@ -7,7 +7,7 @@ use lib.Dec.{ltb}
 use Rattle.lists.specs.Tables.{grid}
 use Rattle.bands.specs.Band.{sizeExponent, bandWidth}
 use Rattle.bands.specs.Power.{bandSum}
-use Rattle.registers.specs.Settings.{settingOf, bandsOf, enabledOf}
+use Rattle.settings.specs.Settings.{settingOf, bandsOf, enabledOf}
 use Rattle.registers.specs.declared.Registers.{Registers}
 
 -- processor n is enabled, and band b is not past the count

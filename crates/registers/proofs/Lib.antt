@@ -1,4 +1,3 @@
 pub mod Laws
 pub mod Stored
-pub mod Settings
 pub mod Theorems

@@ -7,7 +7,8 @@ use native.Mathlib.Omega.{arith}
 use borrow.Author.Tests.{eq-eqb, ne-eqb, eqb-true, le-leb, lt-ltb, ltb-true}
 use lib.Dec.{eqb, leb, ltb, lit≤}
 use Rattle.lists.proofs.Choices.{both}
-use Rattle.registers.specs.Store.{limited, sourceOf, enableOf, binsOf, navgOf, ncadOf, highStored, lowStored, storedAt, canStore, highWithin}
+use Rattle.registers.specs.Store.{limited, sourceOf, enableOf, binsOf, navgOf, ncadOf, highStored, lowStored, storedAt, canStore}
+use Rattle.registers.specs.Private.{highWithin}
 use Rattle.registers.proofs.Laws.{limited-le, limited-again, high-le, low-lt}
 
 -- the fields of a value that is put together from a high part of three fields and a low part of two

@@ -15,6 +15,7 @@ use Rattle.registers.specs.declared.Write.{Write}
 abbrev pub atReset : Registers
 atReset = record { value = replicate 7 0 }
 
+-- an ID of a register: 0x30 to 0x36
 abbrev pub isId : ℕ → Bool
 isId id = leb 0x30 id && leb id 0x36
 
@@ -22,7 +23,7 @@ isId id = leb 0x30 id && leb id 0x36
 abbrev pub register : Registers → ℕ → ℕ
 register r n = getD (r .value) n 0
 
--- register n is a value that a write can store
+-- register n is a value that a write can store, and each of the seven is
 abbrev pub storable : Registers → ℕ → Bool
 storable r n = canStore n (register r n)
 
@@ -51,12 +52,12 @@ abbrev pub outcomeOf : Write → WriteOutcome
 outcomeOf w = record { answer = answerOutcome (w .answer); registers = w .registers }
 
 -- refused: the registers are as they were
-abbrev pub unwritten : ℕ → Registers → WriteOutcome
-unwritten n r = record { answer = refused n; registers = r }
+abbrev pub writeRefused : ℕ → Registers → WriteOutcome
+writeRefused n r = record { answer = refused n; registers = r }
 
 -- a write of the information v to the ID: refused by 3, then 1; else the value stored, and the registers with that one register changed
 unfoldable pub writeOutcome : Registers → ℕ → ℕ → WriteOutcome
 writeOutcome r id v =
-    cond (not (registersSound r)) (unwritten 3 r)
-    (cond (not (isId id)) (unwritten 1 r)
+    cond (not (registersSound r)) (writeRefused 3 r)
+    (cond (not (isId id)) (writeRefused 1 r)
     (record { answer = given (stored id v); registers = storedTo r id v }))

@@ -43,7 +43,3 @@ stored id v = storedAt (id - 0x30) v
 -- register n can store the value: it is what a write of it stores (`can-store` of proofs/Theorems.antt)
 abbrev pub canStore : ℕ → ℕ → Bool
 canStore n v = eqb (storedAt n v) v
-
--- the bits 15:6 that 0x30 can store, for the contract of a private function
-abbrev pub highWithin : ℕ → Bool
-highWithin v = leb (ncadOf v) 0xA && (leb (navgOf v) 0xA && leb (binsOf v) 2)

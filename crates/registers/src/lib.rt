@@ -1,8 +1,8 @@
 // The seven spectral registers 0x30 to 0x36 (01, "Registers 0x30 to 0x36"). Register n, counted from 0, belongs to processor n + 1.
 ghost use mathlib.Core.Path.{_≡_};
-ghost use Rattle.registers.specs.Store.{limited, lowStored, highStored, highWithin, storedAt, canStore};
+ghost use Rattle.registers.specs.Store.{limited, lowStored, highStored, storedAt, canStore};
+ghost use Rattle.registers.specs.Private.{highWithin};
 ghost use Rattle.registers.specs.Access.{atReset, isId, registersSound, answerOutcome, registerRead, outcomeOf, writeOutcome};
-ghost use Rattle.registers.specs.Settings.{settingOf, bandsOf, averagedSpectra, periodTicks, enabledOf, enabledCount, runningOf};
 ghost use Prim.Native.Nat.{_≤_};
 use refusal::Refusal;
 
@@ -23,7 +23,7 @@ pub struct Write {
 }
 
 // A field at most the limit is kept, and any other becomes the default.
-fn limited_field(field: u16, limit: u16, default: u16) -> u16
+pub fn limited_field(field: u16, limit: u16, default: u16) -> u16
     ensures { λ r. ⌜ r ≡ limited limit default field ⌝ }
 {
     if field <= limit { field } else { default }
@@ -189,83 +189,5 @@ impl Registers {
         }
         let register = (id - Registers::FIRST_ID) as usize;
         Answer::Value(self.value[register])
-    }
-
-    // The bin setting: 0, 1 or 2.
-    pub fn setting(self) -> u8
-        ensures { λ r. ⌜ r ≡ settingOf self ⌝ }
-    {
-        let bins = limited_field(
-            self.value[0] / 64 % 4,
-            Registers::BINS_LIMIT,
-            Registers::BINS_DEFAULT,
-        );
-        bins as u8
-    }
-
-    // The number of bands that every processor reports.
-    pub fn bands(self) -> usize
-        ensures { λ r. ⌜ r ≡ bandsOf self ⌝ }
-    {
-        let setting = self.setting() as usize;
-        bands::COUNTS[setting] as usize
-    }
-
-    // N, the number of spectra of a report.
-    pub fn averaged_spectra(self) -> u16
-        ensures { λ r. ⌜ r ≡ averagedSpectra self ⌝ }
-    {
-        let exponent = limited_field(
-            self.value[0] / 256 % 16,
-            Registers::NAVG_LIMIT,
-            Registers::NAVG_DEFAULT,
-        );
-        1u16 << exponent
-    }
-
-    // C, the number of ticks of a period.
-    pub fn period_ticks(self) -> u16
-        ensures { λ r. ⌜ r ≡ periodTicks self ⌝ }
-    {
-        let exponent = limited_field(
-            self.value[0] / 4096,
-            Registers::NCAD_LIMIT,
-            Registers::NCAD_DEFAULT,
-        );
-        1u16 << exponent
-    }
-
-    // Whether processor n, counted from 0, is enabled.
-    pub fn enabled(self, n: usize) -> bool
-        ensures { λ r. ⌜ r ≡ enabledOf self n ⌝ }
-    {
-        if n < Registers::COUNT {
-            self.value[n] / 32 % 2 == 1
-        } else {
-            false
-        }
-    }
-
-    // How many processors are enabled.
-    pub fn enabled_count(self) -> usize
-        ensures { λ r. ⌜ r ≡ enabledCount self ⌝ }
-    {
-        let mut count: usize = 0;
-        for n in 0..Registers::COUNT {
-            if self.enabled(n) {
-                count += 1;
-            }
-        }
-        count
-    }
-
-    // Whether some processor is enabled and N is at most C.
-    pub fn running(self) -> bool
-        ensures { λ r. ⌜ r ≡ runningOf self ⌝ }
-    {
-        if self.enabled_count() == 0 {
-            return false;
-        }
-        self.averaged_spectra() <= self.period_ticks()
     }
 }

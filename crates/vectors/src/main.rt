@@ -166,36 +166,42 @@ fn show_tick(answer: TickAnswer) {
     end();
 }
 
-// Processor 1 at 36 bands with N = 2 and C = 4: two ticks with the power of bin 0, a band of one bin. The answers, the total between the
-// ticks, the first code, what it stands for; then a tick that waits.
-fn show_mean(first: u32, second: u32) {
-    let mut totals = [0u64; 784];
+// One tick with the power of bin 0, a band of one bin: its answer and the total after it.
+fn tick_with(state: State, totals: &mut [u64], power: u32, out: &mut [u8]) -> State {
     let mut powers = [0u32; 7168];
-    let mut out = [0u8; 1176];
-    let stored = board::command(State::reset(), &mut totals, 0x30, 0x2120);
-    let before = stored.state;
-    powers[0] = first;
-    let one = board::tick(before, &mut totals, &powers, &mut out);
-    let first_answer = one.answer;
-    let between = one.state;
-    show_tick(first_answer);
-    number(totals[0]);
+    powers[0] = power;
+    let ticked = board::tick(state, totals, &powers, out);
+    let answer = ticked.answer;
+    show_tick(answer);
+    if 0 < totals.len() {
+        number(totals[0]);
+    }
     end();
-    powers[0] = second;
-    let two = board::tick(between, &mut totals, &powers, &mut out);
-    let second_answer = two.answer;
-    let after = two.state;
-    show_tick(second_answer);
-    number(totals[0]);
-    end();
+    ticked.state
+}
+
+// The first word of an output, and what its lower code stands for.
+fn show_first_word(out: &[u8]) {
+    if out.len() < 3 {
+        return;
+    }
     byte(out[0]);
     byte(out[1]);
     byte(out[2]);
     end();
     show_band_value(out[2]);
-    let three = board::tick(after, &mut totals, &powers, &mut out);
-    let third_answer = three.answer;
-    show_tick(third_answer);
+}
+
+// Processor 1 at 36 bands with the information of 0x30: two ticks, the first word, and a third tick.
+fn show_mean(information: u16, first: u32, second: u32) {
+    let mut totals = [0u64; 784];
+    let mut out = [0u8; 1176];
+    let stored = board::command(State::reset(), &mut totals, 0x30, information);
+    let before = stored.state;
+    let between = tick_with(before, &mut totals, first, &mut out);
+    let after = tick_with(between, &mut totals, second, &mut out);
+    show_first_word(&out);
+    tick_with(after, &mut totals, second, &mut out);
 }
 
 fn main() {
@@ -210,8 +216,11 @@ fn main() {
     show_bin(2, 1023);
     show_bin(2, 1024);
     show_bin(3, 0);
-    show_mean(8, 11);
-    show_mean(0, 1);
+    // N = 2, C = 4: a report at the second tick.
+    show_mean(0x2120, 8, 11);
+    show_mean(0x2120, 0, 1);
+    // N = C = 4: the total of both ticks is still held.
+    show_mean(0x2220, 8, 11);
     show_band_values();
     show_cadences();
     show_descriptions(0, 37);

@@ -1,29 +1,29 @@
 // Words and numbers on standard output, a space before each number.
 use refusal::Refusal;
 
-pub fn name(text: &[u8]) {
+pub(crate) fn name(text: &[u8]) {
     io::write_all(1, text);
 }
 
-pub fn number(n: u64) {
+pub(crate) fn number(n: u64) {
     io::write_all(1, b" ");
     io::print_decimal(1, n);
 }
 
-pub fn hex(n: u64, width: usize) {
+pub(crate) fn hex(n: u64, width: usize) {
     io::write_all(1, b" ");
     io::print_hex(1, n, width);
 }
 
-pub fn byte(b: u8) {
+pub(crate) fn byte(b: u8) {
     hex(b as u64, 2);
 }
 
-pub fn refused(r: Refusal) {
+pub(crate) fn refused(r: Refusal) {
     io::write_all(1, b" refused");
     number(refusal::number(r) as u64);
 }
 
-pub fn end() {
+pub(crate) fn end() {
     io::write_all(1, b"\n");
 }

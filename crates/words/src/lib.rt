@@ -1,12 +1,8 @@
-// 24-bit board words and waveform sets (01, "Words and sets"): sets of signed samples to bytes and back.
+// Board words (01, "Words and sets"): an APID and 16 bits; samples; and the words of a set.
 ghost use mathlib.Core.Path.{_≡_};
-ghost use Prim.Native.Nat.{_+_, _*_, _≤_};
-ghost use lib.ListN.{length};
-ghost use lib.Seq.{sets};
-ghost use Rattle.lists.specs.Tables.{overwrite};
-ghost use Rattle.refusal.specs.Outcome.{given, writtenOutcome, filled};
+ghost use Rattle.refusal.specs.Outcome.{writtenOutcome};
 ghost use Rattle.words.specs.Sample.{bitsOf, sampleOf};
-ghost use Rattle.words.specs.Sets.{setSize, isApid, wordBytes, packedBytes, packSized, packOutcome, everyApid, samplesOf, unpackSized, unpackOutcome};
+ghost use Rattle.words.specs.Words.{setSize, isApid, pairOf};
 use refusal::Refusal;
 use refusal::Written;
 
@@ -63,111 +59,9 @@ pub fn is_apid(apid: u8) -> bool
     }
 }
 
-// Writes one word at a place.
-fn put_word(out: &mut [u8], at: usize, apid: u8, bits: u16)
-    requires { ⌜ at + 3 ≤ length (now out) ⌝ }
-    ensures { λ _. ⌜ now (out .exit) ≡ sets (now (out .entry)) at (wordBytes apid bits) ⌝ }
-{
-    out[at] = apid;
-    out[at + 1] = (bits / 256) as u8;
-    out[at + 2] = (bits % 256) as u8;
-}
-
-// Writes the words of the samples.
-fn put_words(apid: u8, samples: &[i16], out: &mut [u8])
-    requires { ⌜ 3 * length (now samples) ≤ length (now out) ⌝ }
-    ensures { λ _. ⌜ now (out .exit) ≡ overwrite (packedBytes apid (now (samples .entry))) (now (out .entry)) ⌝ }
-{
-    let mut i = 0;
-    while i < samples.len() {
-        put_word(out, 3 * i, apid, bits_of(samples[i]));
-        i += 1;
-    }
-}
-
-// Packs a set of as many words into bytes. Refused by 2.
-fn pack_set(apid: u8, words: usize, samples: &[i16], out: &mut [u8]) -> Written
-    requires { ⌜ words ≤ 7 ⌝ }
-    ensures { λ r. ⌜ filled r (now (out .exit)) ≡ packSized apid (now (samples .entry)) (now (out .entry)) (given words) ⌝ }
-{
-    if samples.len() != words {
-        return Written::Refused(Refusal::WrongLength);
-    }
-    if out.len() < 3 * words {
-        return Written::Refused(Refusal::WrongLength);
-    }
-    put_words(apid, samples, out);
-    Written::Count(3 * words)
-}
-
-// Packs one set of samples into words; answers the bytes written. Refused by 4, then 2.
-pub fn pack(apid: u8, samples: &[i16], out: &mut [u8]) -> Written
-    ensures { λ r. ⌜ filled r (now (out .exit)) ≡ packOutcome apid (now (samples .entry)) (now (out .entry)) ⌝ }
-{
-    match set_words(apid) {
-        Written::Count(words) => pack_set(apid, words, samples, out),
-        Written::Refused(refusal) => Written::Refused(refusal),
-    }
-}
-
-// Whether each of n words has the APID.
-fn every_apid(apid: u8, n: usize, bytes: &[u8]) -> bool
-    requires { ⌜ 3 * n ≤ length (now bytes) ⌝ }
-    ensures { λ r. ⌜ r ≡ everyApid apid n (now (bytes .entry)) ⌝ }
-{
-    let mut i = 0;
-    while i < n {
-        if bytes[3 * i] != apid {
-            return false;
-        }
-        i += 1;
-    }
-    true
-}
-
 // 16 bits from two bytes, high byte first.
 pub fn pair(high: u8, low: u8) -> u16
-    ensures { λ r. ⌜ r ≡ high * 256 + low ⌝ }
+    ensures { λ r. ⌜ r ≡ pairOf high low ⌝ }
 {
     high as u16 * 256 + low as u16
-}
-
-// Writes the samples of n words.
-fn put_samples(n: usize, bytes: &[u8], samples: &mut [i16])
-    requires { ⌜ (3 * n ≤ length (now bytes)) × (n ≤ length (now samples)) ⌝ }
-    ensures { λ _. ⌜ now (samples .exit) ≡ overwrite (samplesOf n (now (bytes .entry))) (now (samples .entry)) ⌝ }
-{
-    let mut i = 0;
-    while i < n {
-        samples[i] = sample_of(pair(bytes[3 * i + 1], bytes[3 * i + 2]));
-        i += 1;
-    }
-}
-
-// Unpacks the bytes of a set of as many words. Refused by 2, then 5.
-fn unpack_set(apid: u8, words: usize, bytes: &[u8], samples: &mut [i16]) -> Written
-    requires { ⌜ words ≤ 7 ⌝ }
-    ensures { λ r. ⌜ filled r (now (samples .exit)) ≡ unpackSized apid (now (bytes .entry)) (now (samples .entry)) (given words) ⌝ }
-{
-    if bytes.len() != 3 * words {
-        return Written::Refused(Refusal::WrongLength);
-    }
-    if samples.len() < words {
-        return Written::Refused(Refusal::WrongLength);
-    }
-    if !every_apid(apid, words, bytes) {
-        return Written::Refused(Refusal::IncompleteSet);
-    }
-    put_samples(words, bytes, samples);
-    Written::Count(words)
-}
-
-// Unpacks the words of one set into samples; answers the samples written. Refused by 4, then 2, then 5.
-pub fn unpack(apid: u8, bytes: &[u8], samples: &mut [i16]) -> Written
-    ensures { λ r. ⌜ filled r (now (samples .exit)) ≡ unpackOutcome apid (now (bytes .entry)) (now (samples .entry)) ⌝ }
-{
-    match set_words(apid) {
-        Written::Count(words) => unpack_set(apid, words, bytes, samples),
-        Written::Refused(refusal) => Written::Refused(refusal),
-    }
 }

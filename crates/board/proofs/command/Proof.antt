@@ -2,7 +2,7 @@
 use Rattle.registers.specs.Access.{isId}
 use mathlib.Core.Bool.{true, false}
 use mathlib.Core.Path.{_≡_, sym, _∙_}
-use Rattle.model.specs.Totals.{noTotals}
+use Rattle.totals.proofs.Laws.{cleared-784}
 use Rattle.model.specs.Board.{stateSound, commandOutcome}
 use borrow.Author.Tests.{eq-eqb, ne-eqb, not-true, not-false}
 use borrow.Author.Needs.{needs}
@@ -36,12 +36,13 @@ accepted-command-requires c κs =
     (sound-parts (a .state) (a .totals .now) sound .registers, sym (c .before .before .before .before .before .is-id .ensures) ∙ not-false _ (c .before .before .before .before .if3 .left))
 
 returns-4 : tie.Need-returns-4
-unfolding commandOutcome noTotals
+unfolding commandOutcome
 returns-4 c =
     let a = c .before .before .before .before .before .before .before .before .before .before .before .before .before .before .args in
     let sound : stateSound (a .state) (a .totals .now) ≡ true = sym (c .before .before .before .before .before .before .before .before .is-sound .ensures) ∙ not-false _ (c .before .before .before .before .before .before .before .if2 .left) in
     let known : isId (a .id) ≡ true = sym (c .before .before .before .before .before .before .is-id .ensures) ∙ not-false _ (c .before .before .before .before .before .if3 .left) in
-    simp (sound, known, c .accepted-command .ensures, c .before .before .before .clear .ensures, c .before .before .before .before .before .before .before .before .before .before .before .before .if1 .left)
+    let long = c .before .before .before .before .before .before .before .before .before .before .before .before .if1 .left in
+    simp (eq-eqb _ _ long, sound, known, c .accepted-command .ensures, c .before .before .before .clear .ensures, cleared-784 (a .totals .now) long)
 
 pub command-spec : {M : Type 1} → statement M
 command-spec =

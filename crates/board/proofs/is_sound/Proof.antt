@@ -1,4 +1,6 @@
 -- `board::is_sound` meets its contract. Assumes nothing.
+use mathlib.Core.Path.{_∙_}
+use Rattle.limits.proofs.Laws.{within-784}
 use Rattle.model.specs.Board.{stateSound}
 use borrow.Author.Tests.{not-true, not-false}
 use borrow.Author.Needs.{needs}
@@ -19,20 +21,18 @@ returns-2 c =
       not-true (c .before .is-phase-sound .result) (c .if2 .taken),
     )
 
-totals-within-requires : tie.Need-totals-within-requires
-totals-within-requires c κs = (c .before .before .before .before .before .before .before .pre .1, c .spectra-held .ensures .1)
-
 returns-3 : tie.Need-returns-3
 unfolding stateSound
 returns-3 c =
+    let a = c .before .before .before .before .before .before .before .before .args in
     rw (
       ← c .before .before .before .before .before .is-sound .ensures,
       not-false (c .before .before .before .before .before .is-sound .result) (c .before .before .before .before .if1 .left),
       ← c .before .before .before .is-phase-sound .ensures,
       not-false (c .before .before .before .is-phase-sound .result) (c .before .before .if2 .left),
-      ← c .before .spectra-held .ensures .0,
+      ← c .before .spectra-held .ensures,
     )
-    (c .totals-within .ensures)
+    (c .totals-within .ensures ∙ within-784 (a .state .registers) (c .before .spectra-held .result) (a .totals .now) (c .before .before .before .before .before .before .before .before .pre .1))
 
 pub is-sound-spec : {M : Type 1} → statement M
 is-sound-spec =
@@ -43,6 +43,5 @@ is-sound-spec =
     (λ c κs. search needs)
     returns-2
     (λ c κs. search needs)
-    (λ c. search needs)
-    totals-within-requires
+    (λ c κs. search needs)
     returns-3)

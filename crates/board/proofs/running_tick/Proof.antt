@@ -1,21 +1,23 @@
 -- `board::running_tick` meets its contract. Assumes nothing.
-use Prim.Native.Nat.{ℕ, _+_, _-_, _≤_, _<_}
+use Prim.Native.Nat.{ℕ, _+_, _-_}
 use mathlib.Core.Bool.{true, false, cond}
-use mathlib.Core.Path.{_≡_, ap, sym, _∙_, subst}
+use mathlib.Core.Path.{_≡_, ap, _∙_}
 use native.Mathlib.Omega.{arith}
 use lib.Dec.{ltb, eqb}
 use borrow.Author.Tests.{eq-eqb, ne-eqb, lt-ltb, le-ltb}
-use Rattle.registers.specs.Settings.{averagedSpectra, periodTicks}
-use Rattle.registers.proofs.Settings.{averaged-pos, period-le}
-use Rattle.model.specs.declared.State.{State}
+use Rattle.settings.specs.Settings.{averagedSpectra}
+use Rattle.settings.proofs.Settings.{averaged-pos, period-pos, period-le}
 use Rattle.model.specs.Board.{atNextPhase, runningOutcome}
-use Rattle.board.proofs.Ticking.{phase-in, addable}
+use Rattle.board.proofs.Ticking.{phase-in, added-here}
 use borrow.Author.Needs.{needs}
 use Rattle.board.proofs.running_tick.Statement.{statement}
 use Rattle.board.proofs.running_tick.Tie as tie
 
+-- N and C are at least 1
 sub-last : tie.Need-sub-last
-sub-last c = omega (arith, averaged-pos (c .before .before .before .before .before .before .args .state .registers))
+sub-last c =
+    let r = c .before .before .before .before .before .before .args .state .registers in
+    omega (arith, averaged-pos r, period-pos r)
 
 next-phase-requires : tie.Need-next-phase-requires
 next-phase-requires c κs =
@@ -23,9 +25,6 @@ next-phase-requires c κs =
       omega (arith, phase-in (a .state) (a .totals .now) (a .powers .now) (a .out .now) (c .before .before .before .before .before .before .pre)),
       omega (arith, period-le (a .state .registers)),
     )
-
-add-spectrum-requires : tie.Need-add-spectrum-requires
-add-spectrum-requires c κs = let a = c .before .before .before .before .before .before .before .before .before .args in addable (a .state) (a .totals .now) (a .powers .now) (a .out .now) (c .before .before .before .before .before .before .before .before .before .pre)
 
 -- the state at the next phase
 moves : (c : tie.After-next-phase) → record { registers = c .before .before .before .before .before .before .before .args .state .registers; phase = c .next-phase .result } ≡ atNextPhase (c .before .before .before .before .before .before .before .args .state)
@@ -39,10 +38,16 @@ unfolding runningOutcome
 returns c =
     let s = c .before .before .before .before .before .before .before .before .before .before .before .before .args .state in
     let before-last : ltb (s .phase) (averagedSpectra (s .registers) - 1) ≡ true = lt-ltb (s .phase) (averagedSpectra (s .registers) - 1) (omega (arith, c .before .before .before .before .before .before .averaged-spectra .ensures)) in
-    rw (before-last, ← moves (c .before .before .before .before .before), c .before .before .add-spectrum .ensures)
+    let a = c .before .before .before .before .before .before .before .before .before .before .before .before .args in
+    rw (
+      before-last,
+      ← moves (c .before .before .before .before .before),
+      c .before .before .add-spectrum .ensures,
+      added-here s (a .totals .now) (a .powers .now) (a .out .now) (c .before .before .before .before .before .before .before .before .before .before .before .before .pre) (λ i. omega (arith, c .before .before .before .before .before .before .before .before .before .before .shared-slice-known .given i)),
+    )
 
-report-requires : tie.Need-report-requires
-report-requires c κs = (c .before .before .before .before .before .before .before .before .before .before .before .pre, (omega (arith, c .before .before .before .before .before .averaged-spectra .ensures), moves (c .before .before .before .before)))
+reporting-tick-requires : tie.Need-reporting-tick-requires
+reporting-tick-requires c κs = (c .before .before .before .before .before .before .before .before .before .before .before .pre, (omega (arith, c .before .before .before .before .before .averaged-spectra .ensures), moves (c .before .before .before .before)))
 
 returns-2 : tie.Need-returns-2
 unfolding runningOutcome
@@ -50,7 +55,7 @@ returns-2 c =
     let s = c .before .before .before .before .before .before .before .before .before .before .before .before .before .before .before .before .args .state in
     let late : ltb (s .phase) (averagedSpectra (s .registers) - 1) ≡ false = le-ltb (s .phase) (averagedSpectra (s .registers) - 1) (omega (arith, c .before .before .before .before .before .before .before .before .before .before .averaged-spectra .ensures)) in
     let at-last : eqb (s .phase) (averagedSpectra (s .registers) - 1) ≡ true = eq-eqb (s .phase) (averagedSpectra (s .registers) - 1) (omega (arith, c .before .before .before .before .before .before .before .before .before .before .averaged-spectra .ensures)) in
-    rw (late, at-last) (c .before .before .before .before .report .ensures)
+    rw (late, at-last) (c .before .before .before .before .reporting-tick .ensures)
 
 returns-3 : tie.Need-returns-3
 unfolding runningOutcome
@@ -68,10 +73,10 @@ running-tick-spec =
     (λ c κs. search needs)
     sub-last
     next-phase-requires
-    add-spectrum-requires
+    (λ c κs. search needs)
     (λ c. search needs)
     returns
-    report-requires
+    reporting-tick-requires
     (λ c. search needs)
     (λ c. search needs)
     returns-2

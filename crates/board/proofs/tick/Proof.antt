@@ -1,10 +1,10 @@
 -- `board::tick` meets its contract. Assumes nothing.
-use Rattle.registers.specs.Settings.{runningOf}
+use Rattle.settings.specs.Settings.{runningOf}
 use Rattle.model.specs.Board.{lengthsFit, stateSound, tickOutcome}
 use Rattle.lists.proofs.Choices.{both}
 use mathlib.Core.Bool.{true, false, _&&_}
 use mathlib.Core.Path.{_≡_, _∙_, sym}
-use lib.Dec.{eqb, leb}
+use lib.Dec.{eqb}
 use lib.ListN.{length}
 use borrow.Author.Tests.{eqb-true, leb-true, not-true, not-false}
 use borrow.Author.Needs.{needs}

@@ -1,11 +1,14 @@
 -- `bursts::offer` meets its contract. Each return has the tests that led there. Assumes nothing.
-use mathlib.Core.Path.{_≡_, sym, _∙_}
+use mathlib.Core.Path.{_≡_, sym, ap, _∙_}
+use Prim.Native.Nat.{ℕ}
 use mathlib.Core.Bool.{true, false}
 use native.Mathlib.Omega.{arith}
 use borrow.Author.Needs.{needs}
 use borrow.Author.Tests.{lt-ltb, le-ltb, not-true, not-false}
 use lib.Dec.{ltb}
-use Rattle.bursts.specs.Slots.{sound, lookedAt, refusedAfter, taken, offerOutcome}
+use Rattle.bursts.specs.Slots.{sound, lookedAt, takes, refusedAfter, changed, taken, offerOutcome}
+use Rattle.bursts.specs.declared.Slots.{Slots}
+use Rattle.bursts.specs.declared.SlotState.the-variants.{Held}
 use Rattle.bursts.specs.Searches.{placeFor}
 use Rattle.bursts.proofs.Rules.{sound-few, offer-by-place}
 use Rattle.bursts.proofs.offer.Statement.{statement}
@@ -41,7 +44,13 @@ returns-2 c =
     let f = c .before .before .before .search .ensures in
     let t : ltb (placeFor s x) (s .count) ≡ true = lt-ltb (placeFor s x) (s .count) (omega (arith, f .0, c .before .if2 .taken)) in
     let rule : offerOutcome s x ≡ taken s (placeFor s x) (lookedAt s) x = offer-by-place s x ∙ simp (e, t) in
-    cc (rule, f .0, f .1, c .change .ensures)
+    let place = c .before .before .before .search .result .place in
+    let looked = c .before .before .before .search .result .looked in
+    let after : c .change .result ≡ changed s place (Held x) = c .change .ensures in
+    ap (λ (t : Slots). record { answer = takes place looked; slots = t }) after
+    ∙ ap (λ (i : ℕ). taken s i looked x) (f .0)
+    ∙ ap (λ (n : ℕ). taken s (placeFor s x) n x) (f .1)
+    ∙ sym rule
 
 returns-3 : tie.Need-returns-3
 returns-3 c =

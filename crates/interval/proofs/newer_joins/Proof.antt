@@ -10,17 +10,17 @@ use Rattle.interval.proofs.newer_joins.Tie as tie
 add-if1 : tie.Need-add-if1
 add-if1 c = search needs
 
-add-comes-up : tie.Need-add-comes-up
-add-comes-up c = search needs
+add-block-joins : tie.Need-add-block-joins
+add-block-joins c = search needs
 
-comes-up-requires : tie.Need-comes-up-requires
-comes-up-requires c κs = search needs
+block-joins-requires : tie.Need-block-joins-requires
+block-joins-requires c κs = search needs
 
 returns : tie.Need-returns
-returns c = c .comes-up .ensures ∙ simp (lt-ltb (c .before .before .before .args .last + 1) (length (c .before .before .before .args .index .now)) (c .before .if1 .taken))
+returns c = c .block-joins .ensures ∙ simp (lt-ltb (c .before .before .before .args .last + 1) (length (c .before .before .before .args .index .now)) (c .before .if1 .taken))
 
 returns-2 : tie.Need-returns-2
 returns-2 c = simp (le-ltb (c .before .before .args .last + 1) (length (c .before .before .args .index .now)) (c .if1 .left))
 
 pub newer-joins-spec : {M : Type 1} → statement M
-newer-joins-spec = tie.close (tie.spec add-if1 add-comes-up comes-up-requires returns returns-2)
+newer-joins-spec = tie.close (tie.spec add-if1 add-block-joins block-joins-requires returns returns-2)

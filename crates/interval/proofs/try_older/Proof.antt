@@ -49,11 +49,13 @@ returns-3 c =
 returns-4 : tie.Need-returns-4
 unfolding tryOlder
 returns-4 c =
-    let g = c .before .before .before .before .before .before .before .args .g in
+    let a = c .before .before .before .before .before .before .before .args in
+    let g = a .g in
     let o : g .older ≡ true = not-false _ (c .before .before .before .before .if1 .left) in
     let b = sym (c .before .before .before .below .ensures) ∙ not-false _ (c .before .before .if2 .left) in
     let j = sym (c .before .older-joins .ensures) ∙ c .if3 .left in
-    simp (o, b, j)
+    let rule : tryOlder (a .index .now) (a .bonus) (a .limit) (a .start) g ≡ record { first = g .first; last = g .last; older = false; newer = g .newer } = simp (o, b, j) in
+    sym rule
 
 pub try-older-spec : {M : Type 1} → statement M
 try-older-spec =

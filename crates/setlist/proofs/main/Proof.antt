@@ -1,7 +1,7 @@
 -- `setlist::main` meets its contract.
 -- Assumes nothing.
 use Rattle.listing.proofs.Whole.{written-within}
-use Rattle.setlist.specs.Input.{Filled}
+use Rattle.setlist.specs.Input.{Within}
 use lib.Seq.{length-take-le}
 use mathlib.Core.Path.{sym, subst}
 use borrow.Author.Needs.{needs}
@@ -30,10 +30,10 @@ returns : tie.Need-returns
 returns c = search needs
 
 array-share-prefix-input : tie.Need-array-share-prefix-input
-array-share-prefix-input c = subst (λ r. Filled r (c .before .before .before .before .read-input .last .0)) (c .before .n .given .1) (c .before .before .before .before .read-input .ensures)
+array-share-prefix-input c = subst (λ r. Within r (c .before .before .before .before .read-input .last .0)) (c .before .n .given .1) (c .before .before .before .before .read-input .ensures)
 
 slice-aggregate-listing : tie.Need-slice-aggregate-listing
-slice-aggregate-listing c = sym (length-take-le _ _ (subst (λ r. Filled r (c .before .before .before .before .before .read-input .last .0)) (c .before .before .n .given .1) (c .before .before .before .before .before .read-input .ensures)))
+slice-aggregate-listing c = sym (length-take-le _ _ (subst (λ r. Within r (c .before .before .before .before .before .read-input .last .0)) (c .before .before .n .given .1) (c .before .before .before .before .before .read-input .ensures)))
 
 slice-aggregate-listing-2 : tie.Need-slice-aggregate-listing-2
 slice-aggregate-listing-2 c = search needs

@@ -4,7 +4,7 @@ use mathlib.Core.Bool.{true, false}
 use borrow.Author.Tests.{eq-eqb, ne-eqb}
 use borrow.Author.Needs.{needs}
 use Rattle.refusal.specs.Outcome.{isGiven, writtenOutcome}
-use Rattle.words.specs.Sets.{setSize}
+use Rattle.words.specs.Words.{setSize}
 use Rattle.words.proofs.is_apid.Statement.{statement}
 use Rattle.words.proofs.is_apid.Tie as tie
 

@@ -1,6 +1,6 @@
 -- `words::set_words` meets its contract: each arm is a case of `setSize`. Assumes nothing.
 use borrow.Author.Tests.{ne-eqb}
-use Rattle.words.specs.Sets.{setSize}
+use Rattle.words.specs.Words.{setSize}
 use Rattle.words.proofs.set_words.Statement.{statement}
 use Rattle.words.proofs.set_words.Tie as tie
 

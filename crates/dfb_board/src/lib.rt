@@ -1,0 +1,127 @@
+// The C interface of the board (include/dfb.h): command, read and tick. Each function takes numbers and slices, a pointer and then a
+// length in C, and answers a number. A refusal is a base plus its number, which no other answer of the function equals, and changes nothing.
+ghost use mathlib.Core.Path.{_≡_};
+ghost use lib.ListN.{length};
+ghost use Rattle.registers.specs.Access.{answerOutcome};
+ghost use Rattle.model.specs.Board.{tickReply};
+ghost use Rattle.numbers.specs.Numbers.{above16, outcomeNumber};
+ghost use Rattle.dfb_board.specs.State.{stateOf, stateWords};
+ghost use Rattle.dfb_board.specs.Calls.{replyNumber, CommandCall, commandCall, readCall, TickCall, tickCall};
+use model::State;
+use model::TickAnswer;
+use refusal::Refusal;
+use registers::Answer;
+use registers::Registers;
+
+// The length of a state: seven registers and the phase.
+const STATE: usize = 8;
+
+// The answer of a command or a read.
+fn answer_16(answer: Answer) -> u32
+    ensures { λ r. ⌜ r ≡ outcomeNumber above16 (answerOutcome answer) ⌝ }
+{
+    match answer {
+        Answer::Value(value) => value as u32,
+        Answer::Refused(refusal) => numbers::above_16(refusal),
+    }
+}
+
+// The answer of a tick.
+fn tick_number(answer: TickAnswer) -> u32
+    ensures { λ r. ⌜ r ≡ replyNumber (tickReply answer) ⌝ }
+{
+    match answer {
+        TickAnswer::Idle => 0,
+        TickAnswer::Collected => 1,
+        TickAnswer::Waiting => 2,
+        TickAnswer::Reported(words) => 0x20000 + words as u32,
+        TickAnswer::Refused(refusal) => numbers::above_16(refusal),
+    }
+}
+
+// The state of eight numbers.
+fn load(state: &[u16]) -> State
+    requires { ⌜ length (now state) ≡ 8 ⌝ }
+    ensures { λ r. ⌜ r ≡ stateOf (now (state .entry)) ⌝ }
+{
+    let value = [
+        state[0],
+        state[1],
+        state[2],
+        state[3],
+        state[4],
+        state[5],
+        state[6],
+    ];
+    State {
+        registers: Registers { value },
+        phase: state[7],
+    }
+}
+
+// The eight numbers of a state.
+fn store(state: &mut [u16], from: State)
+    requires { ⌜ length (now state) ≡ 8 ⌝ }
+    ensures { λ _. ⌜ now (state .exit) ≡ stateWords from ⌝ }
+{
+    let registers = from.registers;
+    state[0] = registers.value[0];
+    state[1] = registers.value[1];
+    state[2] = registers.value[2];
+    state[3] = registers.value[3];
+    state[4] = registers.value[4];
+    state[5] = registers.value[5];
+    state[6] = registers.value[6];
+    state[7] = from.phase;
+}
+
+// A command; answers the value stored. Refused by 2, then 3, then 1.
+#[no_mangle]
+pub extern "C" fn dfb_command(
+    state: &mut [u16],
+    totals: &mut [u64],
+    id: u8,
+    information: u16,
+) -> u32
+    ensures { λ r. ⌜ record { answer = r; state = now (state .exit); totals = now (totals .exit) } ≡ commandCall (now (state .entry)) (now (totals .entry)) id information ⌝ }
+{
+    if state.len() != STATE {
+        return numbers::above_16(Refusal::WrongLength);
+    }
+    let done = board::command(load(state), totals, id, information);
+    let next = done.state;
+    store(state, next);
+    let answer = done.answer;
+    answer_16(answer)
+}
+
+// The value of the register of an ID. Refused by 2 for the state's length, then 3, then 1.
+#[no_mangle]
+pub extern "C" fn dfb_read(state: &[u16], id: u8) -> u32
+    ensures { λ r. ⌜ r ≡ readCall (now (state .entry)) id ⌝ }
+{
+    if state.len() != STATE {
+        return numbers::above_16(Refusal::WrongLength);
+    }
+    answer_16(board::read(load(state), id))
+}
+
+// A tick with 7 rows of 1,024 powers; a report writes 3 bytes for each word from the start of out. Refused by 2, then 3, then 13.
+#[no_mangle]
+pub extern "C" fn dfb_tick(
+    state: &mut [u16],
+    totals: &mut [u64],
+    powers: &[u32],
+    out: &mut [u8],
+) -> u32
+    ensures { λ r. ⌜ record { answer = r; state = now (state .exit); totals = now (totals .exit); out = now (out .exit) } ≡ tickCall (now (state .entry)) (now (totals .entry)) (now (powers .entry)) (now (out .entry)) ⌝ }
+{
+    if state.len() != STATE {
+        return numbers::above_16(Refusal::WrongLength);
+    }
+    let done = board::tick(load(state), totals, powers, out);
+    let next = done.state;
+    store(state, next);
+    let answer = done.answer;
+    tick_number(answer)
+}

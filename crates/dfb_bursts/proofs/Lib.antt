@@ -1,0 +1,2 @@
+pub mod Bursts
+pub mod Theorems

@@ -1,0 +1,2 @@
+-- The C interface of the interval: its answer as a number.
+pub mod Interval

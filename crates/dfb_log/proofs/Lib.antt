@@ -1,0 +1,3 @@
+pub mod Small
+pub mod Append
+pub mod Theorems

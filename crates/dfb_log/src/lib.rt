@@ -1,0 +1,121 @@
+// The C interface of waveform sets, the log and the listing (include/dfb.h). Each function takes numbers and slices, a pointer and then
+// a length in C, and answers a number. A refusal is a base plus its number, which no other answer of the function equals, and changes nothing.
+ghost use mathlib.Core.Path.{_≡_};
+ghost use Prim.Native.Nat.{_^_, _<_};
+ghost use mathlib.Core.Bool.{false};
+ghost use Rattle.refusal.specs.Number.{numberOf};
+ghost use Rattle.refusal.specs.Outcome.{writtenOutcome};
+ghost use Rattle.sets.specs.Sets.{packOutcome, unpackOutcome};
+ghost use Rattle.listing.specs.Listing.{listingOutcome};
+ghost use Rattle.numbers.specs.Numbers.{above16, above63, outcomeNumber, FilledNumber, filledNumber};
+ghost use Rattle.dfb_log.specs.Append.{recordOf, isWide, wideRefusal, appendKind};
+use log::Command;
+use log::Record;
+use log::Word;
+use refusal::Refusal;
+use refusal::Written;
+
+// The answer of a call that writes a list.
+fn written_16(written: Written) -> u32
+    requires { ⌜ outcomeNumber above16 (writtenOutcome written) < 2 ^ 32 ⌝ }
+    ensures { λ r. ⌜ r ≡ outcomeNumber above16 (writtenOutcome written) ⌝ }
+{
+    match written {
+        Written::Count(n) => n as u32,
+        Written::Refused(refusal) => numbers::above_16(refusal),
+    }
+}
+
+fn written_63(written: Written) -> u64
+    ensures { λ r. ⌜ r ≡ outcomeNumber above63 (writtenOutcome written) ⌝ }
+{
+    match written {
+        Written::Count(n) => n as u64,
+        Written::Refused(refusal) => numbers::above_63(refusal),
+    }
+}
+
+// Packs one waveform set; answers the bytes written. Refused by 4, then 2.
+#[no_mangle]
+pub extern "C" fn dfb_pack(apid: u8, samples: &[i16], out: &mut [u8]) -> u32
+    ensures { λ r. ⌜ record { answer = r; buffer = now (out .exit) } ≡ filledNumber above16 (packOutcome apid (now (samples .entry)) (now (out .entry))) ⌝ }
+{
+    written_16(sets::pack(apid, samples, out))
+}
+
+// Unpacks one waveform set; answers the samples written. Refused by 4, then 2, then 5.
+#[no_mangle]
+pub extern "C" fn dfb_unpack(apid: u8, bytes: &[u8], samples: &mut [i16]) -> u32
+    ensures { λ r. ⌜ record { answer = r; buffer = now (samples .exit) } ≡ filledNumber above16 (unpackOutcome apid (now (bytes .entry)) (now (samples .entry))) ⌝ }
+{
+    written_16(sets::unpack(apid, bytes, samples))
+}
+
+// Whether b is over the 16 bits that a command or a word has.
+fn is_wide(kind: u8, b: u32) -> bool
+    ensures { λ r. ⌜ r ≡ isWide kind b ⌝ }
+{
+    kind <= log::WORD && 0xFFFF < b
+}
+
+// The refusal of a command or a word whose b is over 16 bits.
+fn wide_refusal(kind: u8, a: u8) -> Refusal
+    ensures { λ r. ⌜ numberOf r ≡ wideRefusal kind a ⌝ }
+{
+    if kind == log::COMMAND {
+        if registers::is_id(a) {
+            return Refusal::WrongLength;
+        }
+        return Refusal::UnknownCommand;
+    }
+    if words::is_apid(a) {
+        Refusal::WrongLength
+    } else {
+        Refusal::UnknownApid
+    }
+}
+
+// The record of a kind.
+fn record_of(kind: u8, a: u8, b: u32) -> Record
+    requires { ⌜ isWide kind b ≡ false ⌝ }
+    ensures { λ r. ⌜ r ≡ recordOf kind a b ⌝ }
+{
+    if kind == log::COMMAND {
+        return Record::Command(Command {
+            id: a,
+            information: b as u16,
+        });
+    }
+    if kind == log::WORD {
+        return Record::Word(Word {
+            apid: a,
+            bits: b as u16,
+        });
+    }
+    if kind == log::SECOND_MARK {
+        return Record::SecondMark(b);
+    }
+    Record::Tick
+}
+
+// Appends one record behind the bytes used; answers the new number of bytes used. Refused by 9, then 1 or 4 by the record, then 2.
+#[no_mangle]
+pub extern "C" fn dfb_append(log: &mut [u8], used: usize, kind: u8, a: u8, b: u32) -> u64
+    ensures { λ r. ⌜ record { answer = r; buffer = now (log .exit) } ≡ filledNumber above63 (appendKind (now (log .entry)) used kind a b) ⌝ }
+{
+    if !log::is_kind(kind) {
+        return numbers::above_63(Refusal::UnknownRecordKind);
+    }
+    if is_wide(kind, b) {
+        return numbers::above_63(wide_refusal(kind, a));
+    }
+    written_63(log::append(log, used, record_of(kind, a, b)))
+}
+
+// Writes the listing of a log; answers the bytes of text. Refused by 2.
+#[no_mangle]
+pub extern "C" fn dfb_listing(log: &[u8], out: &mut [u8]) -> u64
+    ensures { λ r. ⌜ record { answer = r; buffer = now (out .exit) } ≡ filledNumber above63 (listingOutcome (now (log .entry)) (now (out .entry))) ⌝ }
+{
+    written_63(listing::listing(log, out))
+}

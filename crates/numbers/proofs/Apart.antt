@@ -1,0 +1,18 @@
+-- Values below the base are told apart from refusals. Assumes nothing.
+use mathlib.Core.Path.{_≡_, refl, subst}
+use Prim.Native.Nat.{ℕ, _+_, _<_}
+use native.Mathlib.Omega.{arith}
+use borrow.Author.Tests.{lt-ltb, le-ltb}
+use Rattle.refusal.specs.Outcome.{Outcome, given, refused}
+use Rattle.refusal.proofs.Outcomes.{refused-given}
+use Rattle.numbers.specs.Numbers.{Below, ToldApart}
+
+pub given-below : (base v : ℕ) → v < base → Below base (given v)
+given-below base v h = record { value = λ w e. let same : v ≡ w = cc in subst (λ (n : ℕ). n < base) same h }
+
+pub refused-below : (base n : ℕ) → Below base (refused n)
+refused-below base n = record { value = λ v e. absurd (refused-given n v e) }
+
+pub told-apart : (base : ℕ) (o : Outcome ℕ) → Below base o → ToldApart base o
+told-apart base (given v) b = lt-ltb v base (b .value v refl)
+told-apart base (refused n) b = le-ltb (base + n) base (omega arith)

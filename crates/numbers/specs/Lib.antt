@@ -1,0 +1,2 @@
+-- How the answers of the C interface are numbers.
+pub mod Numbers

@@ -1,0 +1,3 @@
+pub mod Written
+-- For the contracts of private functions only.
+pub mod Private

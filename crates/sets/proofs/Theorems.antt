@@ -1,0 +1,150 @@
+-- The round trips, for every set size: unpacking the bytes that packing wrote gives the same signed samples, and packing the samples
+-- that unpacking wrote gives the same bytes.
+use Prim.Native.Nat.{ℕ, zero, suc, _+_, _*_, _/_, _%_, _<_, _≤_}
+use mathlib.Core.Path.{_≡_, refl, ap, _∙_}
+use mathlib.Core.Bool.{true}
+use mathlib.Core.List.{List, [], _∷_}
+use native.Mathlib.Omega.{arith}
+use borrow.Author.Tests.{eq-eqb, eqb-true, le-leb}
+use lib.Dec.{eqb, leb}
+use lib.IntN.{ℤ}
+use lib.ListN.{length, take}
+use lib.Seq.{take-at}
+use lib.Signed.{mag}
+use mir.Syntax.{w16}
+use mir.Val.{ofZ, toZ}
+use mir.ValLaws.{toZ-ofZ, ofZ-toZ}
+use Rattle.lists.specs.Tables.{overwrite}
+use Rattle.lists.proofs.Choices.{by-cases, both}
+use Rattle.refusal.specs.Outcome.{Outcome, given, refused}
+use Rattle.refusal.proofs.Outcomes.{refused-given}
+use Rattle.words.specs.Sample.{bitsOf, sampleOf}
+use Rattle.words.specs.Words.{setSize}
+use Rattle.sets.specs.Sets.{packedBytes, packFits, packSized, packOutcome, everyApid, samplesOf, unpackFits, unpackSized, unpackOutcome}
+use Rattle.words.proofs.Signed.{bits-are, sample-is}
+use Rattle.sets.proofs.Laws.{packed-length, samples-length}
+
+-- samples that 16 bits hold, as every list of `i16` is
+abbrev pub Are16 : List ℤ → Type 0
+Are16 [] = Unit {0}
+Are16 (z ∷ zs) = (mag z < 32768) × Are16 zs
+
+-- bytes, as every list of `u8` is
+abbrev pub AreBytes : List ℕ → Type 0
+AreBytes [] = Unit {0}
+AreBytes (b ∷ bs) = (b < 256) × AreBytes bs
+
+-- a sample of its 16 bits, and the samples of their words, come back
+pub sample-of-bits : (z : ℤ) → mag z < 32768 → sampleOf (bitsOf z) ≡ z
+sample-of-bits z h = ap sampleOf (bits-are z) ∙ sample-is (ofZ w16 z) ∙ toZ-ofZ w16 z (record { sfits = h })
+
+pub samples-packed : (apid : ℕ) (zs : List ℤ) → Are16 zs → samplesOf (length zs) (packedBytes apid zs) ≡ zs
+unfolding samplesOf packedBytes
+samples-packed apid [] f = refl
+samples-packed apid (z ∷ zs) f =
+    let b : bitsOf z / 256 * 256 + bitsOf z % 256 ≡ bitsOf z = omega arith in
+    simp (b, sample-of-bits z (f .0), samples-packed apid zs (f .1))
+
+pub every-packed : (apid : ℕ) (zs : List ℤ) → everyApid apid (length zs) (packedBytes apid zs) ≡ true
+unfolding everyApid packedBytes
+every-packed apid [] = refl
+every-packed apid (z ∷ zs) = simp (eq-eqb apid apid refl, every-packed apid zs)
+
+-- 16 bits of a sample, and the bytes of the words, come back
+pub bits-of-sample : (b : ℕ) → b < 65536 → bitsOf (sampleOf b) ≡ b
+bits-of-sample b h = ap bitsOf (sample-is b) ∙ bits-are (toZ w16 b) ∙ ofZ-toZ w16 b (record { fits = h })
+
+pub packed-samples : (apid n : ℕ) (bytes : List ℕ) → AreBytes bytes → length bytes ≡ 3 * n → everyApid apid n bytes ≡ true → packedBytes apid (samplesOf n bytes) ≡ bytes
+unfolding samplesOf packedBytes everyApid
+packed-samples apid zero [] f l e = refl
+packed-samples apid zero (a ∷ bytes) f l e = absurd (omega arith)
+packed-samples apid (suc n) [] f l e = absurd (omega arith)
+packed-samples apid (suc n) (a ∷ []) f l e = absurd (omega arith)
+packed-samples apid (suc n) (a ∷ h ∷ []) f l e = absurd (omega arith)
+packed-samples apid (suc n) (a ∷ h ∷ k ∷ bytes) f l e =
+    let t = both (eqb a apid) (everyApid apid n bytes) e in
+    let x : bitsOf (sampleOf (h * 256 + k)) ≡ h * 256 + k = bits-of-sample (h * 256 + k) (omega (arith, f .1 .0, f .1 .1 .0)) in
+    let high : (h * 256 + k) / 256 ≡ h = omega (arith, f .1 .1 .0) in
+    let low : (h * 256 + k) % 256 ≡ k = omega (arith, f .1 .1 .0) in
+    simp (x, high, low, eqb-true a apid (t .0), packed-samples apid n bytes (f .1 .1 .1) (omega arith) (t .1))
+
+-- what an accepted packing had: a set of so many words, as many samples, and room for the bytes that it answers
+record PackAccepted (apid n : ℕ) (samples : List ℤ) (out : List ℕ) : Type 0 where
+  words : ℕ
+  size : setSize apid ≡ given words
+  count : length samples ≡ words
+  bytes : n ≡ 3 * words
+  fits : packFits words (length samples) (length out) ≡ true
+
+pack-accepted : (apid n : ℕ) (samples : List ℤ) (out : List ℕ) → packOutcome apid samples out .answer ≡ given n → PackAccepted apid n samples out
+unfolding packOutcome
+pack-accepted apid n samples out e = by (setSize apid) refl e
+  where
+    by : (o : Outcome ℕ) → setSize apid ≡ o → packSized apid samples out o .answer ≡ given n → PackAccepted apid n samples out
+    by (refused m) s t = absurd (refused-given m n t)
+    by (given words) s t =
+        by-cases (packFits words (length samples) (length out))
+        (λ q. let b : given (3 * words) ≡ given n = rw q at t in
+        record { words = words; size = s; count = eqb-true _ _ (both (eqb (length samples) words) (leb (3 * words) (length out)) q .0); bytes = cc; fits = q })
+        (λ q. absurd (refused-given 2 n (rw q at t)))
+
+-- what an accepted unpacking had: a set of as many words as it answers, their bytes, each with the APID, and room for the samples
+record UnpackAccepted (apid n : ℕ) (bytes : List ℕ) (out : List ℤ) : Type 0 where
+  size : setSize apid ≡ given n
+  count : length bytes ≡ 3 * n
+  fits : unpackFits n (length bytes) (length out) ≡ true
+  apids : everyApid apid n bytes ≡ true
+
+unpack-accepted : (apid n : ℕ) (bytes : List ℕ) (out : List ℤ) → unpackOutcome apid bytes out .answer ≡ given n → UnpackAccepted apid n bytes out
+unfolding unpackOutcome
+unpack-accepted apid n bytes out e = by (setSize apid) refl e
+  where
+    by : (o : Outcome ℕ) → setSize apid ≡ o → unpackSized apid bytes out o .answer ≡ given n → UnpackAccepted apid n bytes out
+    by (refused m) s t = absurd (refused-given m n t)
+    by (given words) s t =
+        by-cases (unpackFits words (length bytes) (length out)) (λ q. by-cases (everyApid apid words bytes)
+        (λ p. let b : given words ≡ given n = rw (q, p) at t in
+        let same : words ≡ n = cc in
+        record {
+          size = s ∙ b;
+          count = eqb-true _ _ (both (eqb (length bytes) (3 * words)) (leb words (length out)) q .0) ∙ ap (λ (k : ℕ). 3 * k) same;
+          fits = rw (← same) q;
+          apids = rw (← same) p;
+        })
+        (λ p. absurd (refused-given 5 n (rw (q, p) at t))))
+        (λ q. absurd (refused-given 2 n (rw q at t)))
+
+-- unpacking the bytes that an accepted packing answers, from the output that it left, gives the samples
+module _ (apid n : ℕ) (samples : List ℤ) (out : List ℕ) (back : List ℤ) (are : Are16 samples) (ok : packOutcome apid samples out .answer ≡ given n) (room : length samples ≤ length back) where
+  packed : take n (packOutcome apid samples out .buffer) ≡ packedBytes apid samples
+  unfolding packOutcome
+  packed =
+      let a = pack-accepted apid n samples out ok in
+      let long : length (packedBytes apid samples) ≡ n = packed-length apid samples ∙ omega (arith, a .count, a .bytes) in
+      rw (a .size, a .fits) (take-at (packedBytes apid samples) _ n long)
+
+  pub round-trip :
+      unpackOutcome apid (take n (packOutcome apid samples out .buffer)) back ≡ record { answer = given (length samples); buffer = overwrite samples back }
+  unfolding unpackOutcome
+  round-trip =
+      let a = pack-accepted apid n samples out ok in
+      let long : eqb (length (packedBytes apid samples)) (3 * length samples) ≡ true = eq-eqb _ _ (packed-length apid samples) in
+      let fits : leb (length samples) (length back) ≡ true = le-leb (length samples) (length back) room in
+      rw (packed, a .size, ← a .count) (simp (long, fits, every-packed apid samples, samples-packed apid samples are))
+
+-- packing the samples that an accepted unpacking answers, from the output that it left, gives the bytes
+module _ (apid n : ℕ) (bytes : List ℕ) (out : List ℤ) (back : List ℕ) (are : AreBytes bytes) (ok : unpackOutcome apid bytes out .answer ≡ given n) (room : length bytes ≤ length back) where
+  unpacked : take n (unpackOutcome apid bytes out .buffer) ≡ samplesOf n bytes
+  unfolding unpackOutcome
+  unpacked =
+      let a = unpack-accepted apid n bytes out ok in
+      rw (a .size, a .fits, a .apids) (take-at (samplesOf n bytes) _ n (samples-length n bytes))
+
+  pub converse-round-trip :
+      packOutcome apid (take n (unpackOutcome apid bytes out .buffer)) back ≡ record { answer = given (length bytes); buffer = overwrite bytes back }
+  unfolding packOutcome
+  converse-round-trip =
+      let a = unpack-accepted apid n bytes out ok in
+      let long : eqb (length (samplesOf n bytes)) n ≡ true = eq-eqb _ _ (samples-length n bytes) in
+      let fits : leb (3 * n) (length back) ≡ true = le-leb (3 * n) (length back) (omega (arith, a .count)) in
+      rw (unpacked, a .size) (simp (long, fits, a .count, packed-samples apid n bytes are (a .count) (a .apids)))

@@ -1,0 +1,37 @@
+-- Board words (01, "Words and sets"): an APID and 16 bits; and the words of a set.
+use Prim.Native.Nat.{ℕ, _+_, _*_, _/_, _%_}
+use mathlib.Core.Bool.{Bool, cond, _||_}
+use mathlib.Core.List.{List, [], _∷_}
+use lib.Dec.{eqb}
+use lib.ListN.{getD}
+use Rattle.refusal.specs.Outcome.{Outcome, given, refused, isGiven}
+
+-- the words of a set, by its waveform APID: E_SVY, V_SVY, MAG_SVY, E_B1, V_B1, SCM_B1; refused by 4 for any other, 0x4E too
+unfoldable pub setSize : ℕ → Outcome ℕ
+setSize apid =
+    cond (eqb apid 0x43) (given 3)
+    (cond (eqb apid 0x44) (given 7)
+    (cond (eqb apid 0x45) (given 3)
+    (cond (eqb apid 0x46) (given 3)
+    (cond (eqb apid 0x47) (given 6)
+    (cond (eqb apid 0x48) (given 3)
+    (refused 4))))))
+
+-- an APID that is kept: a waveform's, or SPEC, 0x4E
+abbrev pub isApid : ℕ → Bool
+isApid apid = eqb apid 0x4E || isGiven (setSize apid)
+
+-- 16 bits as two bytes, high byte first, and back
+abbrev pub pairBytes : ℕ → List ℕ
+pairBytes bits = bits / 256 ∷ bits % 256 ∷ []
+
+abbrev pub pairOf : ℕ → ℕ → ℕ
+pairOf high low = high * 256 + low
+
+-- a word: the APID, then its 16 bits
+abbrev pub wordBytes : ℕ → ℕ → List ℕ
+wordBytes apid bits = apid ∷ pairBytes bits
+
+-- the 16 bits of the two bytes from a place on
+abbrev pub pairAt : List ℕ → ℕ → ℕ
+pairAt bytes at = pairOf (getD bytes at 0) (getD bytes (at + 1) 0)
