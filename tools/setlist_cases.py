@@ -117,16 +117,21 @@ fn show_end(out: &[u8], n: usize) {
     io::write_all(1, &out[from..n]);
 }
 
-// The largest log: 65,536 ticks.
-fn largest_log() {
-    let log = [4u8; 65536];
-    let mut out = [0u8; 393280];
-    match listing::listing(&log, &mut out) {
-        Written::Count(n) => show_end(&out, n),
+// The same of the listing of a log, made in out.
+fn show_end_of(log: &[u8], out: &mut [u8]) {
+    match listing::listing(log, out) {
+        Written::Count(n) => show_end(out, n),
         Written::Refused(_) => {
             io::write_all(1, b"refused\\n");
         }
     }
+}
+
+// The largest log: 65,536 ticks.
+fn largest_log() {
+    let log = [4u8; 65536];
+    let mut out = [0u8; 393280];
+    show_end_of(&log, &mut out);
 }
 
 '''
@@ -144,7 +149,7 @@ def main():
         calls.append("    case_%d();\n" % (number + 1))
         expected += "".join(listing(log) for log in logs)
     source += TAIL
-    expected += listing(b"\x04") + "refused\n" + listing(b"\x04" * 65537) 
+    expected += listing(b"\x04") + "refused\n" + listing(b"\x04" * 65537)
     largest = listing(b"\x04" * 65536)
     expected += "%d\n%s" % (len(largest), largest[-16:])
     source += "fn main() {\n%s    small_outputs();\n    largest_log();\n}\n" % "".join(calls)

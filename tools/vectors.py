@@ -1,17 +1,18 @@
 #!/usr/bin/env python3
-"""vectors.py DOCUMENT > crates/vectors/stdout: what the program `vectors` must print.
+"""vectors.py DOCUMENT: writes crates/vectors/stdout and crates/board_vectors/stdout, what these programs must print.
 
-Nothing here comes from the program. The numbers of the first part are those of 01, "Numbers on both sides", copied by hand. The band codes
-follow 01's sentence on legal codes, and the cadences that on NCAD. The bands are the rows of tables 23, 24 and 25 of DOCUMENT, source
-document 002 as text, with the centre half-way between the edges.
+Nothing here comes from the programs. The single numbers are those of 01, "Numbers on both sides", copied by hand. The band codes follow
+01's sentence on legal codes, and the cadences that on NCAD. The bands are the rows of tables 23, 24 and 25 of DOCUMENT, source document
+002 as text, with the centre half-way between the edges.
 """
+import os
 import sys
 
 from frequency_tables import rows
 
-COPIED = """\
-write 30 0017 0003
-read 30 0003
+CRATES = os.path.join(os.path.dirname(os.path.abspath(__file__)), "..", "crates")
+
+NUMBERS = """\
 band code of 9 0c
 band code of 16 14
 sum code of 1023 03ff
@@ -21,31 +22,23 @@ bin 0 1023 35
 bin 1 1023 63
 bin 2 1023 111
 bin 2 1024 refused 12
-bin 3 0 refused 12
-collected
- 8
-reported 18
- 0
- 4e 00 0c
-band code 0c 8
-waiting
- 0
-collected
- 0
-reported 18
- 0
- 4e 00 00
-band code 00 0
-waiting
- 0
-collected
- 8
-collected
- 19
- 00 00 00
-band code 00 0
-collected
- 30"""
+bin 3 0 refused 12""".split("\n")
+
+
+def report(code, value):
+    """A report of processor 1 at 36 bands, 18 words: its first word has band 0 in the lower byte and band 1, which is 0, in the upper."""
+    return ["reported words 18", "total 0", f"apid {0x4E}", "code of band 1 0", f"code of band 0 {code}", f"value {value}"]
+
+
+def board():
+    # a write of 0x0017 to 0x30, and its read
+    yield from (f"value {0x0003}", f"value {0x0003}")
+    # powers 8 and 11: a mean of 9.5, which prints as 8
+    yield from ("collected, total 8", *report(0x0C, 8), "waiting, total 0")
+    # powers 0 and 1: a mean of 0.5, which prints as 0
+    yield from ("collected, total 0", *report(0x00, 0), "waiting, total 0")
+    # no report yet: an output of zeros
+    yield from ("collected, total 8", "collected, total 19", "apid 0", "code of band 1 0", "code of band 0 0", "value 0", "collected, total 30")
 
 
 def band_codes():
@@ -73,8 +66,12 @@ def bands(document):
     yield "band 3 1 refused 12"
 
 
+def write(crate, *parts):
+    with open(os.path.join(CRATES, crate, "stdout"), "w") as out:
+        for part in parts:
+            out.writelines(line + "\n" for line in part)
+
+
 if __name__ == "__main__":
-    print(COPIED)
-    for part in (band_codes(), cadences(), bands(sys.argv[1])):
-        for line in part:
-            print(line)
+    write("vectors", NUMBERS, band_codes(), cadences(), bands(sys.argv[1]))
+    write("board_vectors", board())

@@ -15,7 +15,8 @@ use Rattle.refusal.proofs.Outcomes.{given-of}
 use Rattle.bands.specs.declared.Description.{Description}
 use Rattle.bands.specs.declared.BandDescription.{BandDescription}
 use Rattle.bands.specs.declared.Cadence.{Cadence}
-use Rattle.bands.specs.Band.{sizeExponent, bandCount, bandStart, bandWidth, hasBand}
+use Rattle.bands.specs.Band.{sizeExponent, bandStart, bandWidth, hasBand}
+use Rattle.registers.specs.Store.{bandCount}
 use Rattle.bands.specs.Answer.{whole, described, bandDescriptionOutcome, bandDescribed, rate, period, cadenceOutcome, cadenceOf}
 use Rattle.bands.specs.Exact.{ExactHertz, ExactDescription, ExactCadence}
 use Rattle.bands.proofs.Entries.{agree}

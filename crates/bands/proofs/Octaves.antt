@@ -6,7 +6,8 @@ use native.Mathlib.Nat.{lt-irrefl, one-mul, mod-eq-of-lt, mul-comm, mul-zero, mu
 use native.Mathlib.Omega.{arith}
 use lib.Pow.{pow-pos, pow-lt, pow-mono, pow-add}
 use Rattle.lists.specs.Sums.{sumTo}
-use Rattle.bands.specs.Band.{sizeExponent, bandCount, widthExponent, bandStart, bandWidth}
+use Rattle.bands.specs.Band.{sizeExponent, widthExponent, bandStart, bandWidth}
+use Rattle.registers.specs.Store.{bandCount}
 use Rattle.bands.specs.Power.{bandSum}
 use Rattle.bands.proofs.Bins.{Parts, start-at, width-at}
 use Rattle.bands.proofs.Power.{bandSum-run}

@@ -1,57 +1,17 @@
--- The bands of the three bin settings. Assumes nothing.
+-- The bins of the bands of the three bin settings. Assumes nothing.
 use mathlib.Core.Path.{_≡_, refl, sym}
 use mathlib.Core.Bool.{true, false, cond, and-false}
-use mathlib.Core.List.{[], _∷_}
-use Prim.Native.Nat.{ℕ, zero, suc, _+_, _*_, _%_, _^_, _≤_, _<_}
+use Prim.Native.Nat.{ℕ, suc, _+_, _*_, _^_, _≤_, _<_}
 use native.Mathlib.Nat.{lt-of-not-le, mul-comm}
-use native.Mathlib.Decide.{decLt}
 use native.Mathlib.Omega.{arith}
-use lib.Dec.{leb, ltb, eqb, lit≤}
-use lib.ListN.{getD}
+use lib.Dec.{leb, ltb, lit≤}
 use lib.Pow.{pow-mono}
-use borrow.Author.Tests.{ltb-true, lt-ltb, le-ltb, le-leb, ne-eqb}
+use borrow.Author.Tests.{ltb-true, lt-ltb, le-ltb, le-leb}
 use Rattle.lists.proofs.Choices.{both, cond-at}
-use Rattle.bands.specs.Band.{sizeExponent, bandCount, bandOf, widthExponent, bandStart, bandWidth, hasBand}
+use Rattle.registers.specs.Store.{bandCount}
+use Rattle.registers.proofs.Counts.{three, setting-le}
+use Rattle.bands.specs.Band.{sizeExponent, bandOf, widthExponent, bandStart, bandWidth, hasBand}
 use Rattle.bands.proofs.Bins.{InBand, split, in-its-band, in-band, first-start, next-start, start-mono, band-below}
-
-three : (P : ℕ → Type 0) → P 0 → P 1 → P 2 → (setting : ℕ) → setting ≤ 2 → P setting
-three P a b c zero h = a
-three P a b c (suc zero) h = b
-three P a b c (suc (suc zero)) h = c
-three P a b c (suc (suc (suc n))) h = absurd (omega arith)
-
--- every count of bands is even and at most 112
-pub record Count (n : ℕ) : Type 0 where
-  pub even : n % 2 ≡ 0
-  pub at-most : n ≤ 112
-
-pub bands-count : (setting : ℕ) → Count (bandCount setting)
-unfolding bandCount
-bands-count setting =
-    cond-at Count (eqb setting 0) (λ e. record { even = refl; at-most = lit≤ tt }) (λ e.
-    cond-at Count (eqb setting 1) (λ e. record { even = refl; at-most = lit≤ tt }) (λ e.
-    cond-at Count (eqb setting 2) (λ e. record { even = refl; at-most = lit≤ tt }) (λ e.
-    record { even = refl; at-most = lit≤ tt })))
-
--- the constant COUNTS has the count of each setting
-pub count-at : (setting : ℕ) → setting ≤ 2 → getD (36 ∷ 64 ∷ 112 ∷ []) setting 0 ≡ bandCount setting
-unfolding bandCount
-count-at = three (λ (q : ℕ). getD (36 ∷ 64 ∷ 112 ∷ []) q 0 ≡ bandCount q) refl refl refl
-
-pub bands-some : (setting : ℕ) → setting ≤ 2 → 36 ≤ bandCount setting
-unfolding bandCount
-bands-some = three (λ (q : ℕ). 36 ≤ bandCount q) (lit≤ tt) (lit≤ tt) (lit≤ tt)
-
--- a setting that has bands is one of the three
-pub setting-le : (setting b : ℕ) → b < bandCount setting → setting ≤ 2
-unfolding bandCount
-setting-le setting b h = go (decLt 2 setting)
-  where
-    go : Dec (2 < setting) → setting ≤ 2
-    go (no l) = omega arith
-    go (yes l) =
-        let none : bandCount setting ≡ 0 = simp (ne-eqb setting 0 (λ e. omega arith), ne-eqb setting 1 (λ e. omega arith), ne-eqb setting 2 (λ e. omega arith)) in
-        omega arith
 
 -- the bands end with bin 1023
 pub bands-end : (setting : ℕ) → setting ≤ 2 → bandStart (sizeExponent setting) (bandCount setting) ≡ 1024

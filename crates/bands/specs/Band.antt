@@ -1,15 +1,12 @@
 -- 01, "Bands": which band an FFT bin falls in, and the bins of a band. S = 2 ^ s is 4, 8, 16 for the bin settings 0, 1, 2.
 use mathlib.Core.Bool.{Bool, true, false, cond, _&&_}
 use Prim.Native.Nat.{ℕ, zero, suc, _+_, _-_, _*_, _/_, _^_}
-use lib.Dec.{leb, ltb, eqb}
+use lib.Dec.{leb, ltb}
+use Rattle.registers.specs.Store.{bandCount}
 
 -- s for a bin setting
 abbrev pub sizeExponent : ℕ → ℕ
 sizeExponent setting = setting + 2
-
--- 36, 64, 112 bands; no other setting has bands
-unfoldable pub bandCount : ℕ → ℕ
-bandCount setting = cond (eqb setting 0) 36 (cond (eqb setting 1) 64 (cond (eqb setting 2) 112 0))
 
 -- The greatest number up to n that passes the test, and 0 where none of 1 to n does.
 unfoldable pub greatestTo : (ℕ → Bool) → ℕ → ℕ

@@ -10,9 +10,6 @@ use table::FINE_BANDS;
 
 mod table;
 
-// The number of bands of the bin settings 0, 1 and 2.
-pub const COUNTS: [u8; 3] = [36, 64, 112];
-
 // The band of an FFT bin, or refusal 12.
 pub enum BandIndex {
     Band(u8),
@@ -108,7 +105,7 @@ pub fn bins_of_band(setting: u8, band: u8) -> BandBins
         return BandBins::Refused(Refusal::OutOfRange);
     }
     let i = setting as usize;
-    if COUNTS[i] <= band {
+    if registers::BAND_COUNTS[i] <= band {
         return BandBins::Refused(Refusal::OutOfRange);
     }
     let s = setting + 2;

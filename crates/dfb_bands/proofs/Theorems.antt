@@ -12,9 +12,11 @@ use Rattle.lists.proofs.Choices.{cond-at, both}
 use Rattle.refusal.specs.Outcome.{Outcome, given, refused, Filled}
 use Rattle.codes.specs.Expanded.{bandExpanded, sumExpanded}
 use Rattle.codes.proofs.Laws.{expanded-lt}
-use Rattle.bands.specs.Band.{sizeExponent, bandOf, bandCount}
+use Rattle.bands.specs.Band.{sizeExponent, bandOf}
+use Rattle.registers.specs.Store.{bandCount}
 use Rattle.bands.specs.Answer.{bandFound, bandDescribed}
-use Rattle.bands.proofs.Settings.{band-lt, bands-count}
+use Rattle.bands.proofs.Settings.{band-lt}
+use Rattle.registers.proofs.Counts.{bands-count}
 use Rattle.numbers.specs.Numbers.{above8, above16, above63, Below, ToldApart}
 use Rattle.numbers.proofs.Apart.{given-below, refused-below, told-apart}
 use Rattle.dfb_bands.specs.Values.{valuesWritten, oneValue, threeValues, sumWritten, bandWritten}

@@ -9,7 +9,7 @@ use borrow.Author.Tests.{le-ltb, le-leb, lt-leb, not-false}
 use lib.Dec.{ltb, eqb}
 use lib.ListN.{length}
 use Rattle.lists.proofs.Choices.{cond-at}
-use Rattle.bands.proofs.Settings.{bands-count}
+use Rattle.registers.proofs.Counts.{bands-count}
 use Rattle.registers.specs.declared.Registers.{Registers}
 use Rattle.registers.specs.Store.{stored}
 use Rattle.registers.specs.Access.{isId, register, registersSound, registerRead}

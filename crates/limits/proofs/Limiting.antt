@@ -15,7 +15,8 @@ use Rattle.lists.proofs.Choices.{both, cond-both, cond-same}
 use Rattle.lists.proofs.Sums.{allTo-ext}
 use Rattle.lists.proofs.Overwriting.{part, getD-part}
 use Rattle.lists.proofs.Runs.{allTo-add, allTo-grid}
-use Rattle.bands.specs.Band.{sizeExponent, bandCount, bandWidth}
+use Rattle.bands.specs.Band.{sizeExponent, bandWidth}
+use Rattle.registers.specs.Store.{bandCount}
 use Rattle.bands.proofs.Settings.{range}
 use Rattle.settings.specs.Settings.{settingOf, bandsOf, enabledOf}
 use Rattle.registers.specs.declared.Registers.{Registers}

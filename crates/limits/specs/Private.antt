@@ -6,7 +6,8 @@ use mathlib.Core.List.{List}
 use lib.ListN.{length, getD}
 use lib.Dec.{leb, ltb}
 use Rattle.lists.specs.Sums.{allTo}
-use Rattle.bands.specs.Band.{sizeExponent, bandCount, bandWidth}
+use Rattle.bands.specs.Band.{sizeExponent, bandWidth}
+use Rattle.registers.specs.Store.{bandCount}
 use Rattle.registers.specs.declared.Registers.{Registers}
 use Rattle.model.specs.Totals.{inUse, slot}
 

@@ -2,7 +2,7 @@
 ghost use mathlib.Core.Path.{_≡_};
 ghost use Prim.Native.Nat.{_*_, _^_, _-_, _<_, _≤_};
 ghost use lib.ListN.{length, replicate};
-ghost use Rattle.bands.specs.Band.{bandCount};
+ghost use Rattle.registers.specs.Store.{bandCount};
 ghost use Rattle.settings.specs.Settings.{bandsOf};
 ghost use Rattle.limits.specs.Within.{within};
 ghost use Rattle.limits.specs.Private.{allZero, allWithin, rowWithin, slotsWithin, Limits};

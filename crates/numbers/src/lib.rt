@@ -1,4 +1,4 @@
-// How the C interface (include/dfb.h) numbers its refusals: above a base that no other answer has.
+// How the C interface (include/dfb.h) numbers its refusals: a base plus the number, which no other answer of that function equals.
 ghost use mathlib.Core.Path.{_≡_};
 ghost use Prim.Native.Nat.{_+_};
 ghost use Rattle.refusal.specs.Number.{numberOf};

@@ -1,3 +1,4 @@
 pub mod Laws
 pub mod Stored
+pub mod Counts
 pub mod Theorems

@@ -20,6 +20,10 @@ navgOf v = v / 256 % 16
 abbrev pub ncadOf : ℕ → ℕ
 ncadOf v = v / 4096
 
+-- the bands of a bin setting: bins 0 = 36, 1 = 64, 2 = 112; no other setting has bands
+unfoldable pub bandCount : ℕ → ℕ
+bandCount setting = cond (eqb setting 0) 36 (cond (eqb setting 1) 64 (cond (eqb setting 2) 112 0))
+
 -- a field at most the limit is kept, and any other becomes the default
 abbrev pub limited : ℕ → ℕ → ℕ → ℕ
 limited limit default field = cond (leb field limit) field default

@@ -6,6 +6,9 @@ ghost use Rattle.registers.specs.Access.{atReset, isId, registersSound, 
 ghost use Prim.Native.Nat.{_≤_};
 use refusal::Refusal;
 
+// The number of bands of the bin settings 0, 1 and 2.
+pub const BAND_COUNTS: [u8; 3] = [36, 64, 112];
+
 pub struct Registers {
     pub value: [u16; Registers::COUNT],
 }

@@ -5,7 +5,8 @@ use mathlib.Core.Bool.{Bool, cond}
 use mathlib.Core.List.{List}
 use lib.ListN.{getD}
 use Rattle.lists.specs.Tables.{concatTo}
-use Rattle.bands.specs.Band.{sizeExponent, bandCount, bandWidth}
+use Rattle.bands.specs.Band.{sizeExponent, bandWidth}
+use Rattle.registers.specs.Store.{bandCount}
 use Rattle.model.specs.Report.{specWord}
 
 abbrev pub rowMean : ℕ → ℕ → List ℕ → ℕ → ℕ

@@ -226,16 +226,21 @@ fn show_end(out: &[u8], n: usize) {
     io::write_all(1, &out[from..n]);
 }
 
-// The largest log: 65,536 ticks.
-fn largest_log() {
-    let log = [4u8; 65536];
-    let mut out = [0u8; 393280];
-    match listing::listing(&log, &mut out) {
-        Written::Count(n) => show_end(&out, n),
+// The same of the listing of a log, made in out.
+fn show_end_of(log: &[u8], out: &mut [u8]) {
+    match listing::listing(log, out) {
+        Written::Count(n) => show_end(out, n),
         Written::Refused(_) => {
             io::write_all(1, b"refused\n");
         }
     }
+}
+
+// The largest log: 65,536 ticks.
+fn largest_log() {
+    let log = [4u8; 65536];
+    let mut out = [0u8; 393280];
+    show_end_of(&log, &mut out);
 }
 
 fn main() {

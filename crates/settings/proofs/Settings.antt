@@ -8,7 +8,7 @@ use lib.Pow.{pow-pos, pow-mono}
 use borrow.Author.Tests.{leb-true}
 use Rattle.lists.proofs.Choices.{both, cond-at}
 use Rattle.lists.proofs.Sums.{sumTo-more, sumTo-bound}
-use Rattle.bands.proofs.Settings.{bands-count, bands-some}
+use Rattle.registers.proofs.Counts.{bands-count, bands-some}
 use Rattle.registers.specs.Store.{binsOf, navgOf, ncadOf}
 use Rattle.registers.specs.Access.{register}
 use Rattle.settings.specs.Settings.{settingOf, bandsOf, averagedSpectra, periodTicks, enabledOf, enabledBefore, enabledCount, runningOf}

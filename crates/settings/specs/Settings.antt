@@ -4,8 +4,7 @@ use Prim.Native.Nat.{ℕ, _*_, _/_, _^_}
 use mathlib.Core.Bool.{Bool, cond, _&&_}
 use lib.Dec.{leb, ltb, eqb}
 use Rattle.lists.specs.Sums.{sumTo}
-use Rattle.bands.specs.Band.{bandCount}
-use Rattle.registers.specs.Store.{enableOf, binsOf, navgOf, ncadOf, limited}
+use Rattle.registers.specs.Store.{enableOf, binsOf, navgOf, ncadOf, limited, bandCount}
 use Rattle.registers.specs.Access.{register}
 use Rattle.registers.specs.declared.Registers.{Registers}
 

@@ -23,7 +23,7 @@ pub fn bands(registers: Registers) -> usize
     ensures { λ r. ⌜ r ≡ bandsOf registers ⌝ }
 {
     let setting = bin_setting(registers) as usize;
-    bands::COUNTS[setting] as usize
+    registers::BAND_COUNTS[setting] as usize
 }
 
 // 2 to the power of a field that may be 0 to 0xA; of its default for any other.

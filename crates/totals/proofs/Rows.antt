@@ -16,10 +16,11 @@ use Rattle.lists.specs.Tables.{tabulate, concatTo, grid, overwrite}
 use Rattle.lists.proofs.Sums.{sumTo-ext}
 use Rattle.lists.proofs.Tables.{length-tabulate, getD-tabulate, tabulate-of, tabulate-ext, length-grid}
 use Rattle.lists.proofs.Overwriting.{part, length-part, getD-part, length-overwrite, getD-overwrite, overwrite-tabulate, overwrite-all, parts-more}
-use Rattle.bands.specs.Band.{sizeExponent, bandCount}
+use Rattle.bands.specs.Band.{sizeExponent}
+use Rattle.registers.specs.Store.{bandCount}
 use Rattle.bands.specs.Power.{bandSum}
 use Rattle.bands.proofs.Power.{bandSum-ext}
-use Rattle.bands.proofs.Settings.{bands-count}
+use Rattle.registers.proofs.Counts.{bands-count}
 use Rattle.bands.proofs.Octaves.{octave-le, narrow-le, narrow-sum, octave-sum}
 use Rattle.settings.specs.Settings.{settingOf, bandsOf, enabledOf}
 use Rattle.registers.specs.declared.Registers.{Registers}

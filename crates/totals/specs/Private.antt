@@ -7,7 +7,8 @@ use lib.ListN.{length, getD}
 use lib.Dec.{ltb}
 use Rattle.lists.specs.Sums.{sumTo}
 use Rattle.lists.specs.Tables.{tabulate}
-use Rattle.bands.specs.Band.{sizeExponent, bandCount}
+use Rattle.bands.specs.Band.{sizeExponent}
+use Rattle.registers.specs.Store.{bandCount}
 use Rattle.bands.specs.Power.{bandSum}
 
 -- bands of so many bins each, one after the other

@@ -1,18 +1,14 @@
-// Prints what the libraries answer for outside vectors: 01's numbers that are not starred, all 256 band codes, and every band of the
+// Prints what codes and bands answer for outside vectors: 01's numbers that are not starred, all 256 band codes, and every band of the
 // frequency tables. tools/vectors.py writes the expected output, from 01 and document 002.
 use bands::BandDescription;
 use bands::BandIndex;
 use bands::Cadence;
 use codes::BandValue;
 use codes::SumValue;
-use model::State;
-use model::TickAnswer;
 use refusal::Refusal;
-use registers::Answer;
 
 mod show;
 
-use show::byte;
 use show::end;
 use show::hex;
 use show::name;
@@ -27,29 +23,6 @@ fn hertz(f: f32) -> u64 {
         }
     }
     99999
-}
-
-fn show_answer(answer: Answer) {
-    match answer {
-        Answer::Value(v) => hex(v as u64, 4),
-        Answer::Refused(r) => refused(r),
-    }
-    end();
-}
-
-// A write to a register at reset, and the read of it.
-fn show_write(id: u8, information: u16) {
-    let mut totals = [0u64; 784];
-    let done = board::command(State::reset(), &mut totals, id, information);
-    let answer = done.answer;
-    let state = done.state;
-    name(b"write");
-    hex(id as u64, 2);
-    hex(information as u64, 4);
-    show_answer(answer);
-    name(b"read");
-    hex(id as u64, 2);
-    show_answer(board::read(state, id));
 }
 
 fn show_band_code(value: u32) {
@@ -152,60 +125,7 @@ fn show_cadences() {
     }
 }
 
-fn show_tick(answer: TickAnswer) {
-    match answer {
-        TickAnswer::Idle => name(b"idle"),
-        TickAnswer::Collected => name(b"collected"),
-        TickAnswer::Waiting => name(b"waiting"),
-        TickAnswer::Reported(words) => {
-            name(b"reported");
-            number(words as u64);
-        }
-        TickAnswer::Refused(r) => refused(r),
-    }
-    end();
-}
-
-// One tick with the power of bin 0, a band of one bin: its answer and the total after it.
-fn tick_with(state: State, totals: &mut [u64], power: u32, out: &mut [u8]) -> State {
-    let mut powers = [0u32; 7168];
-    powers[0] = power;
-    let ticked = board::tick(state, totals, &powers, out);
-    let answer = ticked.answer;
-    show_tick(answer);
-    if 0 < totals.len() {
-        number(totals[0]);
-    }
-    end();
-    ticked.state
-}
-
-// The first word of an output, and what its lower code stands for.
-fn show_first_word(out: &[u8]) {
-    if out.len() < 3 {
-        return;
-    }
-    byte(out[0]);
-    byte(out[1]);
-    byte(out[2]);
-    end();
-    show_band_value(out[2]);
-}
-
-// Processor 1 at 36 bands with the information of 0x30: two ticks, the first word, and a third tick.
-fn show_mean(information: u16, first: u32, second: u32) {
-    let mut totals = [0u64; 784];
-    let mut out = [0u8; 1176];
-    let stored = board::command(State::reset(), &mut totals, 0x30, information);
-    let before = stored.state;
-    let between = tick_with(before, &mut totals, first, &mut out);
-    let after = tick_with(between, &mut totals, second, &mut out);
-    show_first_word(&out);
-    tick_with(after, &mut totals, second, &mut out);
-}
-
 fn main() {
-    show_write(0x30, 0x0017);
     show_band_code(9);
     show_band_code(16);
     show_sum_code(1023);
@@ -216,11 +136,6 @@ fn main() {
     show_bin(2, 1023);
     show_bin(2, 1024);
     show_bin(3, 0);
-    // N = 2, C = 4: a report at the second tick.
-    show_mean(0x2120, 8, 11);
-    show_mean(0x2120, 0, 1);
-    // N = C = 4: the total of both ticks is still held.
-    show_mean(0x2220, 8, 11);
     show_band_values();
     show_cadences();
     show_descriptions(0, 37);

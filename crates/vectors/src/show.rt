@@ -15,10 +15,6 @@ pub(crate) fn hex(n: u64, width: usize) {
     io::print_hex(1, n, width);
 }
 
-pub(crate) fn byte(b: u8) {
-    hex(b as u64, 2);
-}
-
 pub(crate) fn refused(r: Refusal) {
     io::write_all(1, b" refused");
     number(refusal::number(r) as u64);

@@ -5,7 +5,7 @@ use native.Mathlib.Omega.{arith}
 use lib.ListN.{length, getD, length-set, length-replicate}
 use lib.Pow.{pow-pos}
 use Rattle.bands.specs.Band.{sizeExponent}
-use Rattle.bands.proofs.Settings.{bands-count}
+use Rattle.registers.proofs.Counts.{bands-count}
 use Rattle.limits.specs.Private.{bandLimit}
 use Rattle.bands.proofs.Octaves.{shiftedSize, shifted-size, narrow-le}
 use Rattle.limits.proofs.Limiting.{limit-le, limits-first, limits-more}

@@ -4,7 +4,7 @@ use lib.ListN.{replicate}
 use native.Mathlib.Omega.{arith}
 use mathlib.Core.Path.{ap, sym, _∙_, subst}
 use borrow.Author.Tests.{eq-eqb, ne-eqb}
-use Rattle.bands.specs.Band.{bandCount}
+use Rattle.registers.specs.Store.{bandCount}
 use Rattle.settings.proofs.Settings.{setting-le}
 use Rattle.model.specs.Board.{totalsWithin}
 use Rattle.limits.specs.Within.{within}

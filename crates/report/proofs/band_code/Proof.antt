@@ -1,6 +1,6 @@
 -- `report::band_code` meets its contract. Assumes nothing.
 use Rattle.codes.specs.Code.{bandCode}
-use Rattle.bands.proofs.Settings.{bands-count}
+use Rattle.registers.proofs.Counts.{bands-count}
 use Prim.Native.Nat.{ℕ, _%_, _^_}
 use mathlib.Core.Path.{ap, _∙_}
 use lib.Bits.{and-mask, mask-lt}

@@ -1,6 +1,6 @@
 -- `report::width_exponent` meets its contract. Assumes nothing.
 use Rattle.bands.specs.Band.{widthExponent}
-use Rattle.bands.proofs.Settings.{setting-le, bands-count}
+use Rattle.registers.proofs.Counts.{setting-le, bands-count}
 use lib.Pow.{shr-le}
 use Prim.Native.Nat.{_+_}
 use native.Mathlib.Omega.{arith}

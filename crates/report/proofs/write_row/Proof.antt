@@ -5,8 +5,8 @@ use native.Mathlib.Omega.{arith}
 use lib.ListN.{length}
 use mathlib.Core.List.{[], _∷_}
 use borrow.Rule.Slice.PartMut.{same-len-mid}
-use Rattle.bands.specs.Band.{bandCount}
-use Rattle.bands.proofs.Settings.{bands-count}
+use Rattle.registers.specs.Store.{bandCount}
+use Rattle.registers.proofs.Counts.{bands-count}
 use Rattle.report.specs.Private.{rowMean, rowBytes}
 use Rattle.model.specs.Report.{specWord}
 use Rattle.model.proofs.Reports.{length-words}

@@ -2,7 +2,7 @@
 use lib.Dec.{lit≤}
 use Rattle.lists.proofs.Choices.{cond-at}
 use Rattle.registers.specs.declared.Registers.{Registers}
-use Rattle.bands.specs.Band.{bandCount}
+use Rattle.registers.specs.Store.{bandCount}
 use Rattle.report.specs.Written.{meanBits}
 use Rattle.report.specs.Private.{rowBytes}
 use Rattle.model.specs.Report.{processorBytes, reportBytes}
@@ -23,7 +23,7 @@ use Rattle.report.proofs.write_rows.Statement.{statement}
 use Rattle.report.proofs.write_rows.Tie as tie
 
 abbrev Inv-loop : tie.InvT-loop
-Inv-loop registers totals out₀ setting words exponent written₀ n₀ out written n = (n ≤ 7) × (written ≤ n * 56) × (written ≡ enabledBefore registers n * (bandsOf registers / 2)) × (length out ≡ length out₀) × (out ≡ overwrite (concatTo n (processorBytes registers (meanBits registers totals))) out₀)
+Inv-loop registers totals out₀ setting words exponent written₀ n₀ out written n = (written ≡ enabledBefore registers n * (bandsOf registers / 2)) × (n ≤ 7) × (written ≤ n * 56) × (length out ≡ length out₀) × (out ≡ overwrite (concatTo n (processorBytes registers (meanBits registers totals))) out₀)
 
 abbrev μ-loop : tie.MeasureT-loop
 μ-loop registers totals out₀ setting words exponent written₀ n₀ out written n = 7 - n
@@ -36,7 +36,7 @@ bands-of : (c : tie.After-bin-setting Inv-loop μ-loop) → bandCount (c .bin-se
 bands-of c = ap bandCount (c .bin-setting .ensures)
 
 loop-holds : tie.Need-loop-holds Inv-loop μ-loop
-loop-holds c = (search needs, search needs, no-words (c .before .before .before .before .before .args .registers), refl, parts-none _ _)
+loop-holds c = (no-words (c .before .before .before .before .before .args .registers), search needs, search needs, refl, parts-none _ _)
 
 mul-write-if-enabled-2 : tie.Need-mul-write-if-enabled-2 Inv-loop μ-loop
 mul-write-if-enabled-2 c = omega (arith, bands-le (c .before .before .before .before .before .before .before .before .before .args .registers), c .before .before .before .before .before .bands .ensures)
@@ -76,14 +76,14 @@ loop-again c =
     let on = c .before .before .before .before .before .enabled in
     let w = c .before .before .write-if-enabled in
     let put : List ℕ = w .last .1 .1 .1 .1 .1 .0 in (
+      words-step (a .registers) (l .n) (l .written) (w .result) (l .inv .0)
+          (w .ensures .words ∙ ap₂ (λ (t : Bool) (k : ℕ). cond t (k / 2) 0) (on .ensures) (bands-of (c .before .before .before .before .before .before .before .before .before .before))),
       search needs,
       omega (arith, small (on .result) (setting .result) (w .result) (a .registers) (bands-of (c .before .before .before .before .before .before .before .before .before .before)) (w .ensures .words)),
-      words-step (a .registers) (l .n) (l .written) (w .result) (l .inv .2)
-          (w .ensures .words ∙ ap₂ (λ (t : Bool) (k : ℕ). cond t (k / 2) 0) (on .ensures) (bands-of (c .before .before .before .before .before .before .before .before .before .before))),
       same-len-mid (3 * l .written) (3 * l .written + 3 * (bands .result / 2) - 3 * l .written) (l .out) put (w .kept .1 .1 .1 .1 .1 .0) ∙ l .inv .3,
       subst (λ (k : ℕ). take (3 * l .written) (l .out) ++ (put ++ drop (3 * l .written + 3 * (k / 2) - 3 * l .written) (drop (3 * l .written) (l .out))) ≡ overwrite (concatTo (l .n + 1) (processorBytes (a .registers) (meanBits (a .registers) (a .totals .now)))) (a .out .now))
           (sym (bands .ensures))
-          (report-step (a .registers) (x .result) (x .ensures .0) (a .totals .now) (a .out .now) (l .n) (l .written) (l .out) put (l .inv .2) (l .inv .4)
+          (report-step (a .registers) (x .result) (x .ensures .0) (a .totals .now) (a .out .now) (l .n) (l .written) (l .out) put (l .inv .0) (l .inv .4)
           (w .ensures .bytes
           ∙ ap₂ (λ (t : Bool) (s : ℕ). cond t (rowBytes s (x .result) (part (a .totals .now) (l .n * 112) 112)) (part (l .out) (3 * l .written) (3 * (bands .result / 2)))) (on .ensures) (setting .ensures)
           ∙ ap (λ (k : ℕ). cond (enabledOf (a .registers) (l .n)) (rowBytes (settingOf (a .registers)) (x .result) (part (a .totals .now) (l .n * 112) 112)) (part (l .out) (3 * l .written) (3 * (k / 2)))) (bands .ensures))),
@@ -94,7 +94,7 @@ same-length c = c .before .loop .inv .3
 
 returns : tie.Need-returns Inv-loop μ-loop
 unfolding reportBytes
-returns c = let e : c .before .loop .n ≡ 7 = omega arith in (rw e at (c .before .loop .inv .4), rw e at (c .before .loop .inv .2), omega arith)
+returns c = let e : c .before .loop .n ≡ 7 = omega arith in (rw e at (c .before .loop .inv .4), rw e at (c .before .loop .inv .0), omega arith)
 
 pub write-rows-spec : {M : Type 1} → statement M
 write-rows-spec =

@@ -5,8 +5,8 @@ use Prim.Native.Nat.{ℕ, _≤_}
 use native.Mathlib.Omega.{arith}
 use lib.ListN.{getD}
 use borrow.Author.Needs.{needs}
-use Rattle.bands.specs.Band.{bandCount}
-use Rattle.bands.proofs.Settings.{count-at}
+use Rattle.registers.specs.Store.{bandCount}
+use Rattle.registers.proofs.Counts.{count-at}
 use Rattle.settings.specs.Settings.{bandsOf}
 use Rattle.settings.proofs.Settings.{setting-le, bands-le}
 use Rattle.settings.proofs.bands.Statement.{statement}

@@ -12,8 +12,8 @@ use borrow.Rule.Slice.PartMut.{same-len-mid}
 use Rattle.lists.specs.Tables.{tabulate, overwrite}
 use Rattle.lists.proofs.Overwriting.{part, length-part}
 use Rattle.lists.proofs.Runs.{table-run}
-use Rattle.bands.specs.Band.{bandCount}
-use Rattle.bands.proofs.Settings.{bands-count}
+use Rattle.registers.specs.Store.{bandCount}
+use Rattle.registers.proofs.Counts.{bands-count}
 use Rattle.totals.specs.Private.{rowSlot}
 use Rattle.bands.proofs.Octaves.{shiftedSize, shifted-size, size-le, bands-size, octave-bins}
 use Rattle.totals.proofs.Rows.{octaveSlot, no-octave, octave-ends, narrow-over, octave-over, kept, row-done}
