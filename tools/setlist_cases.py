@@ -1,6 +1,10 @@
 #!/usr/bin/env python3
-"""setlist_cases.py: writes crates/setlist_cases, its program from the list of cases below and its expected output from listing_model.py."""
+"""setlist_cases.py: writes the input of crates/setlist_cases from the list of cases below, and its expected output from listing_model.py.
+
+In the input each log stands after its length in two bytes, high byte first.
+"""
 import os
+import struct
 
 from listing_model import LEGAL, listing
 
@@ -21,6 +25,7 @@ def by_place(band):
 
 
 LARGEST = 0xEF
+TICK = h("04")
 E_SVY = h("02430001 0243FFFF 02438000")
 SEVEN = b"".join(h("01%02X0020" % (0x30 + n)) for n in range(1, 7))
 
@@ -65,96 +70,17 @@ CASES = [
     ("the longest lines: 112 bands at the largest value", [h("013000B6") + spec(56, lambda b: LARGEST)]),
 ]
 
-HEAD = '''// Lists logs that are held as constants, some for each rule of 01 on the walk and the text. tools/setlist_cases.py writes this file and
-// the expected output, the latter from a model of its own.
-use refusal::Written;
-
-// Prints the listing of a log, made in out.
-fn show_in(log: &[u8], out: &mut [u8]) {
-    match listing::listing(log, out) {
-        Written::Count(n) => {
-            io::write_all(1, &out[..n]);
-        }
-        Written::Refused(_) => {
-            io::write_all(1, b"refused\\n");
-        }
-    }
-}
-
-fn show(log: &[u8]) {
-    let mut out = [0u8; 16384];
-    show_in(log, &mut out);
-}
-
-// The same with an output of 70 bytes, which is enough for a log of one byte and for one over 65,536.
-fn show_small(log: &[u8]) {
-    let mut out = [0u8; 70];
-    show_in(log, &mut out);
-}
-
-'''
-
-TAIL = '''fn small_outputs() {
-    // 2: the output has 6 bytes for each of the log and 64 more, or it is refused
-    show_small(b"\\x04");
-    show_small(b"\\x04\\x04");
-    // 11: a log of 65,537 bytes
-    let long = [4u8; 65537];
-    show_small(&long);
-}
-
-// The number of bytes of a listing, and its last 16.
-fn show_end(out: &[u8], n: usize) {
-    io::print_decimal(1, n as u64);
-    io::write_all(1, b"\\n");
-    if n < 16 {
-        return;
-    }
-    if out.len() < n {
-        return;
-    }
-    let from = n - 16;
-    io::write_all(1, &out[from..n]);
-}
-
-// The same of the listing of a log, made in out.
-fn show_end_of(log: &[u8], out: &mut [u8]) {
-    match listing::listing(log, out) {
-        Written::Count(n) => show_end(out, n),
-        Written::Refused(_) => {
-            io::write_all(1, b"refused\\n");
-        }
-    }
-}
-
-// The largest log: 65,536 ticks.
-fn largest_log() {
-    let log = [4u8; 65536];
-    let mut out = [0u8; 393280];
-    show_end_of(&log, &mut out);
-}
-
-'''
-
-
-def literal(log):
-    return 'b"' + "".join("\\x%02x" % b for b in log) + '"'
-
 
 def main():
-    source, expected, calls = HEAD, "", []
-    for number, (heading, logs) in enumerate(CASES):
-        body = "".join("    show(%s);\n" % literal(log) for log in logs)
-        source += "// %s\nfn case_%d() {\n%s}\n\n" % (heading, number + 1, body)
-        calls.append("    case_%d();\n" % (number + 1))
-        expected += "".join(listing(log) for log in logs)
-    source += TAIL
-    expected += listing(b"\x04") + "refused\n" + listing(b"\x04" * 65537)
-    largest = listing(b"\x04" * 65536)
+    logs = [log for _, group in CASES for log in group]
+    expected = "".join(listing(log) for log in logs)
+    # What the program lists without input: logs of ticks. In 70 bytes one of 1, one of 2 and one of 65,537, then the largest, of which
+    # it prints the length of the text and its end.
+    largest = listing(TICK * 65536)
+    expected += listing(TICK) + "refused\n" + listing(TICK * 65537)
     expected += "%d\n%s" % (len(largest), largest[-16:])
-    source += "fn main() {\n%s    small_outputs();\n    largest_log();\n}\n" % "".join(calls)
-    with open(os.path.join(CRATE, "src", "main.rt"), "w", encoding="utf8") as out:
-        out.write(source)
+    with open(os.path.join(CRATE, "stdin"), "wb") as out:
+        out.write(b"".join(struct.pack(">H", len(log)) + log for log in logs))
     with open(os.path.join(CRATE, "stdout"), "w", encoding="utf8") as out:
         out.write(expected)
 

@@ -25,20 +25,27 @@ bin 2 1024 refused 12
 bin 3 0 refused 12""".split("\n")
 
 
-def report(code, value):
-    """A report of processor 1 at 36 bands, 18 words: its first word has band 0 in the lower byte and band 1, which is 0, in the upper."""
-    return ["reported words 18", "total 0", f"apid {0x4E}", "code of band 1 0", f"code of band 0 {code}", f"value {value}"]
+COLLECTED, WAITING, REPORTED = 1, 2, 1000
+
+
+def tick(answer, total):
+    return f"tick {answer}", f"total {total}"
+
+
+def first_word(apid, code, value):
+    """The first word of a report of processor 1 has band 0 in the lower byte and band 1, which is 0, in the upper."""
+    return f"word {apid << 16 | code}", f"value {value}"
 
 
 def board():
     # a write of 0x0017 to 0x30, and its read
-    yield from (f"value {0x0003}", f"value {0x0003}")
-    # powers 8 and 11: a mean of 9.5, which prints as 8
-    yield from ("collected, total 8", *report(0x0C, 8), "waiting, total 0")
+    yield from (f"stored {0x0003}", f"read {0x0003}")
+    # powers 8 and 11: a mean of 9.5, which prints as 8, in 18 words of 36 bands
+    yield from (*tick(COLLECTED, 8), *tick(REPORTED + 18, 0), *first_word(0x4E, 0x0C, 8), *tick(WAITING, 0))
     # powers 0 and 1: a mean of 0.5, which prints as 0
-    yield from ("collected, total 0", *report(0x00, 0), "waiting, total 0")
+    yield from (*tick(COLLECTED, 0), *tick(REPORTED + 18, 0), *first_word(0x4E, 0x00, 0), *tick(WAITING, 0))
     # no report yet: an output of zeros
-    yield from ("collected, total 8", "collected, total 19", "apid 0", "code of band 1 0", "code of band 0 0", "value 0", "collected, total 30")
+    yield from (*tick(COLLECTED, 8), *tick(COLLECTED, 19), *first_word(0, 0, 0), *tick(COLLECTED, 30))
 
 
 def band_codes():

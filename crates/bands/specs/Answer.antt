@@ -7,8 +7,6 @@ use lib.Ieee.{Float, binary32, ofInt}
 use Rattle.refusal.specs.Number.{numberOf}
 use Rattle.refusal.specs.Outcome.{Outcome, given, refused}
 use Rattle.bands.specs.declared.BandIndex.{BandIndex}
-use Rattle.bands.specs.declared.BinRange.{BinRange}
-use Rattle.bands.specs.declared.BandBins.{BandBins}
 use Rattle.bands.specs.declared.Description.{Description}
 use Rattle.bands.specs.declared.BandDescription.{BandDescription}
 use Rattle.bands.specs.declared.Cadence.{Cadence}
@@ -21,18 +19,6 @@ bandIndexOutcome (BandIndex.Refused r) = refused (numberOf r)
 -- the band of a bin; 12 for a setting over 2 or a bin over 1023
 abbrev pub bandFound : ℕ → ℕ → Outcome ℕ
 bandFound setting k = cond (leb setting 2 && leb k 1023) (given (bandOf (sizeExponent setting) k)) (refused 12)
-
-abbrev pub bandBinsOutcome : BandBins → Outcome BinRange
-bandBinsOutcome (BandBins.Bins r) = given r
-bandBinsOutcome (BandBins.Refused r) = refused (numberOf r)
-
--- the first bin of a band and the number of its bins
-abbrev pub binRange : ℕ → ℕ → BinRange
-binRange setting b = record { start = bandStart (sizeExponent setting) b; width = bandWidth (sizeExponent setting) b }
-
--- the bins of a band; 12 for a setting over 2 or a band past the count
-abbrev pub bandBins : ℕ → ℕ → Outcome BinRange
-bandBins setting b = cond (hasBand setting b) (given (binRange setting b)) (refused 12)
 
 -- ---- floats: `Exact.antt` says what they stand for
 

@@ -1,8 +1,25 @@
--- Serves the contracts of private functions only: the step from one bin setting to the one below it.
+-- Serves the contracts of private functions only: the step from one bin setting to the one below it, and the bins of a band.
 use mathlib.Core.Bool.{cond}
 use Prim.Native.Nat.{ℕ, _+_, _*_, _/_}
 use lib.Dec.{ltb}
+use Rattle.refusal.specs.Number.{numberOf}
+use Rattle.refusal.specs.Outcome.{Outcome, given, refused}
+use Rattle.bands.specs.declared.BinRange.{BinRange}
+use Rattle.bands.specs.declared.BandBins.{BandBins}
+use Rattle.bands.specs.Band.{sizeExponent, bandStart, bandWidth, hasBand}
 
 -- the band at S that holds band b of the setting with twice as many bands to the octave
 unfoldable pub coarser : ℕ → ℕ → ℕ
 coarser size b = cond (ltb b (2 * size)) b (b / 2 + size)
+
+abbrev pub bandBinsOutcome : BandBins → Outcome BinRange
+bandBinsOutcome (BandBins.Bins r) = given r
+bandBinsOutcome (BandBins.Refused r) = refused (numberOf r)
+
+-- the first bin of a band and the number of its bins
+abbrev pub binRange : ℕ → ℕ → BinRange
+binRange setting b = record { start = bandStart (sizeExponent setting) b; width = bandWidth (sizeExponent setting) b }
+
+-- the bins of a band; 12 for a setting over 2 or a band past the count
+abbrev pub bandBins : ℕ → ℕ → Outcome BinRange
+bandBins setting b = cond (hasBand setting b) (given (binRange setting b)) (refused 12)

@@ -1,9 +1,9 @@
-// FFT bins and bands (01, "Bands"): the band of a bin, the bins of a band, its description in hertz, and the cadence of reports.
+// FFT bins and bands (01, "Bands"): the band of a bin, the description of a band in hertz, and the cadence of reports.
 ghost use mathlib.Core.Path.{_≡_};
 ghost use Prim.Native.Nat.{_<_, _≤_, _-_};
 ghost use Rattle.bands.specs.Band.{bandOf};
-ghost use Rattle.bands.specs.Private.{coarser};
-ghost use Rattle.bands.specs.Answer.{bandIndexOutcome, bandFound, bandBinsOutcome, bandBins, bandDescriptionOutcome, bandDescribed, cadenceOutcome, cadenceOf};
+ghost use Rattle.bands.specs.Private.{coarser, bandBinsOutcome, bandBins};
+ghost use Rattle.bands.specs.Answer.{bandIndexOutcome, bandFound, bandDescriptionOutcome, bandDescribed, cadenceOutcome, cadenceOf};
 ghost use Rattle.bands.specs.Exact.{ExactDescription, ExactCadence};
 use refusal::Refusal;
 use table::FINE_BANDS;
@@ -17,13 +17,13 @@ pub enum BandIndex {
 }
 
 // The bins of a band: so many from start on.
-pub struct BinRange {
-    pub start: u16,
-    pub width: u16,
+struct BinRange {
+    start: u16,
+    width: u16,
 }
 
 // The bins of a band, or refusal 12.
-pub enum BandBins {
+enum BandBins {
     Bins(BinRange),
     Refused(Refusal),
 }
@@ -98,7 +98,7 @@ fn width_exponent(octave: u8) -> u8
 }
 
 // The bins of a band; refusal 12 for a setting over 2 or a band past the count.
-pub fn bins_of_band(setting: u8, band: u8) -> BandBins
+fn bins_of_band(setting: u8, band: u8) -> BandBins
     ensures { λ r. ⌜ bandBinsOutcome r ≡ bandBins setting band ⌝ }
 {
     if 2 < setting {

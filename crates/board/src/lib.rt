@@ -1,14 +1,14 @@
-// The board: commands, reads and ticks (01, "Periods"). The state goes in and comes back; the totals, the powers and the output are the caller's.
-// Crate `model` has the types and the rules.
+// The board: commands and ticks (01, "Periods"). The state goes in and comes back; the totals, the powers and the output are the caller's.
+// Crate `model` has the types, the rules, and a read, which is the state's own.
 ghost use mathlib.Core.Path.{_≡_};
 ghost use mathlib.Core.Bool.{true, cond};
 ghost use Prim.Native.Nat.{_+_, _-_, _<_, _≤_};
 ghost use lib.Dec.{eqb};
 ghost use lib.ListN.{length};
 ghost use Rattle.registers.specs.Store.{stored};
-ghost use Rattle.registers.specs.Access.{isId, registersSound, storedTo, answerOutcome, registerRead};
+ghost use Rattle.registers.specs.Access.{isId, registersSound, storedTo};
 ghost use Rattle.settings.specs.Settings.{averagedSpectra, runningOf};
-ghost use Rattle.model.specs.Totals.{added};
+ghost use Rattle.model.specs.Totals.{noTotals, added};
 ghost use Rattle.model.specs.Board.{phaseSound, spectraHeld, totalsWithin, stateSound, commandReply, commandOutcome, tickReply, atNextPhase, lengthsFit, reportOutcome, runningOutcome, tickOutcome};
 ghost use Rattle.board.specs.Private.{Ticking};
 use limits::totals_within;
@@ -21,7 +21,6 @@ use registers::Answer;
 use registers::Registers;
 use report::write_report;
 use totals::add_spectrum;
-use totals::clear;
 
 // The phase is below C when running, and otherwise 0.
 fn is_phase_sound(registers: Registers, running: bool, phase: u16) -> bool
@@ -57,7 +56,7 @@ fn is_sound(state: State, running: bool, totals: &[u64]) -> bool
 {
     let registers = state.registers;
     let phase = state.phase;
-    if !registers.is_sound() {
+    if !store::is_sound(registers) {
         return false;
     }
     if !is_phase_sound(registers, running, phase) {
@@ -66,12 +65,14 @@ fn is_sound(state: State, running: bool, totals: &[u64]) -> bool
     totals_within(registers, totals, spectra_held(registers, running, phase))
 }
 
-// The stored value of a register. Refused by 3, for the registers only, then 1.
-pub fn read(state: State, id: u8) -> Answer
-    ensures { λ r. ⌜ answerOutcome r ≡ registerRead (state .registers) id ⌝ }
+// Sets every total to 0.
+fn clear(totals: &mut [u64])
+    requires { ⌜ length (now totals) ≡ 784 ⌝ }
+    ensures { λ _. ⌜ now (totals .exit) ≡ noTotals ⌝ }
 {
-    let registers = state.registers;
-    registers.read(id)
+    for i in 0..totals.len() {
+        totals[i] = 0;
+    }
 }
 
 fn refused_command(state: State, refusal: Refusal) -> Commanded
@@ -89,7 +90,7 @@ fn accepted_command(state: State, id: u8, information: u16) -> Commanded
     ensures { λ r. ⌜ r ≡ record { answer = Answer.Value (stored id information); state = record { registers = storedTo (state .registers) id information; phase = 0 } } ⌝ }
 {
     let present = state.registers;
-    let write = present.write(id, information);
+    let write = store::write(present, id, information);
     let answer = write.answer;
     let registers = write.registers;
     Commanded {
@@ -109,7 +110,7 @@ pub fn command(state: State, totals: &mut [u64], id: u8, information: u16) -> Co
         return refused_command(state, Refusal::WrongLength);
     }
     let registers = state.registers;
-    if !is_sound(state, settings::running(registers), totals) {
+    if !is_sound(state, processors::running(registers), totals) {
         return refused_command(state, Refusal::UnsoundState);
     }
     if !registers::is_id(id) {
@@ -216,7 +217,7 @@ pub fn tick(state: State, totals: &mut [u64], powers: &[u32], out: &mut [u8]) ->
         return refused_tick(state, Refusal::WrongLength);
     }
     let registers = state.registers;
-    let is_running = settings::running(registers);
+    let is_running = processors::running(registers);
     if !is_sound(state, is_running, totals) {
         return refused_tick(state, Refusal::UnsoundState);
     }

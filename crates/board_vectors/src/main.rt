@@ -1,8 +1,9 @@
 // Prints what the board answers for 01's numbers that are not starred: a write and a read, and powers through real ticks.
-// tools/vectors.py writes the expected output, from 01.
+// tools/vectors.py writes the expected output, from 01. A refusal is printed as 1,000,000 and its number.
 use codes::BandValue;
 use model::State;
 use model::TickAnswer;
+use refusal::Refusal;
 use registers::Answer;
 
 fn line(label: &[u8], n: u64) {
@@ -11,14 +12,32 @@ fn line(label: &[u8], n: u64) {
     io::write_all(1, b"\n");
 }
 
-fn byte(label: &[u8], b: u8) {
-    line(label, b as u64);
+fn refused(refusal: Refusal) -> u64 {
+    1_000_000 + refusal::number(refusal) as u64
 }
 
-fn show_answer(answer: Answer) {
+fn answer_number(answer: Answer) -> u64 {
     match answer {
-        Answer::Value(v) => line(b"value ", v as u64),
-        Answer::Refused(r) => line(b"refused ", refusal::number(r) as u64),
+        Answer::Value(v) => v as u64,
+        Answer::Refused(r) => refused(r),
+    }
+}
+
+// Idle 0, collected 1, waiting 2, and a report 1,000 and its words.
+fn tick_number(answer: TickAnswer) -> u64 {
+    match answer {
+        TickAnswer::Idle => 0,
+        TickAnswer::Collected => 1,
+        TickAnswer::Waiting => 2,
+        TickAnswer::Reported(words) => 1000 + words as u64,
+        TickAnswer::Refused(r) => refused(r),
+    }
+}
+
+fn value_of(code: u8) -> u64 {
+    match codes::expand_band(code) {
+        BandValue::Value(v) => v,
+        BandValue::Refused(r) => refused(r),
     }
 }
 
@@ -28,47 +47,33 @@ fn show_write(id: u8, information: u16) {
     let done = board::command(State::reset(), &mut totals, id, information);
     let answer = done.answer;
     let state = done.state;
-    show_answer(answer);
-    show_answer(board::read(state, id));
+    line(b"stored ", answer_number(answer));
+    line(b"read ", answer_number(state.read(id)));
 }
 
-// The answer of a tick, and the total of band 0 after it.
-fn show_tick(answer: TickAnswer, total: u64) {
-    match answer {
-        TickAnswer::Idle => line(b"idle, total ", total),
-        TickAnswer::Collected => line(b"collected, total ", total),
-        TickAnswer::Waiting => line(b"waiting, total ", total),
-        TickAnswer::Reported(words) => {
-            line(b"reported words ", words as u64);
-            line(b"total ", total);
-        }
-        TickAnswer::Refused(r) => line(b"refused ", refusal::number(r) as u64),
-    }
-}
-
-// One tick with the power of bin 0, a band of one bin.
+// One tick with the power of bin 0, a band of one bin: its answer, and the total of band 0 after it.
 fn tick_with(state: State, totals: &mut [u64], power: u32, out: &mut [u8]) -> State {
     let mut powers = [0u32; 7168];
     powers[0] = power;
     let ticked = board::tick(state, totals, &powers, out);
     let answer = ticked.answer;
+    line(b"tick ", tick_number(answer));
     if 0 < totals.len() {
-        show_tick(answer, totals[0]);
+        line(b"total ", totals[0]);
     }
     ticked.state
 }
 
-// The first word of an output: its APID, its codes, and what that of band 0 stands for.
+// The three bytes of a word as one number.
+fn word(apid: u8, upper: u8, lower: u8) -> u64 {
+    apid as u64 * 65536 + upper as u64 * 256 + lower as u64
+}
+
+// The first word of an output, and what the code of band 0 in it stands for.
 fn show_first_word(out: &[u8]) {
-    if out.len() < 3 {
-        return;
-    }
-    byte(b"apid ", out[0]);
-    byte(b"code of band 1 ", out[1]);
-    byte(b"code of band 0 ", out[2]);
-    match codes::expand_band(out[2]) {
-        BandValue::Value(v) => line(b"value ", v),
-        BandValue::Refused(r) => line(b"refused ", refusal::number(r) as u64),
+    if 3 <= out.len() {
+        line(b"word ", word(out[0], out[1], out[2]));
+        line(b"value ", value_of(out[2]));
     }
 }
 

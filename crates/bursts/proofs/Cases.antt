@@ -8,7 +8,7 @@ use Rattle.lists.proofs.Choices.{cond-at}
 use Rattle.bursts.specs.declared.Slots.{Slots}
 use Rattle.bursts.specs.declared.SlotState.the-variants.{Free, Held, Sending}
 use Rattle.lists.specs.Lowest.{lowest}
-use Rattle.bursts.specs.Slots.{stateOf, isFree, isHeld, isSending, heldBelow, lowestSlot, noSlot, smallestHeld, greatestHeld, sound, SlotsOutcome, OfferOutcome, changed, offerOutcome, chooseOutcome, finishOutcome}
+use Rattle.bursts.specs.Slots.{slotStateOf, isFree, isHeld, isSending, heldBelow, lowestSlot, noSlot, smallestHeld, greatestHeld, sound, SlotsOutcome, OfferOutcome, changed, offerOutcome, chooseOutcome, finishOutcome}
 use Rattle.lists.proofs.Lowest.{lowest-test, none-passes}
 use Rattle.bursts.proofs.Finding.{smallest-some, greatest-none}
 
@@ -18,8 +18,8 @@ some-passes n test t e f = ltb-true (lowest n test) n (not-false _ (sym e ∙ f)
 
 module _ (s : Slots) (P : Slots → Type 0) where
   pub offer-cases : (x : ℕ) →
-      ((p : ℕ) → p < s .count → isFree (stateOf s p) ≡ true → P (changed s p (Held x))) →
-      (noSlot s isFree ≡ true → noSlot s (heldBelow x) ≡ false → (p : ℕ) → p < s .count → smallestHeld s (stateOf s p) ≡ true → P (changed s p (Held x))) →
+      ((p : ℕ) → p < s .count → isFree (slotStateOf s p) ≡ true → P (changed s p (Held x))) →
+      (noSlot s isFree ≡ true → noSlot s (heldBelow x) ≡ false → (p : ℕ) → p < s .count → smallestHeld s (slotStateOf s p) ≡ true → P (changed s p (Held x))) →
       (noSlot s isFree ≡ true → noSlot s (heldBelow x) ≡ true → P s) →
       sound s ≡ true → P (offerOutcome s x .slots)
   unfolding offerOutcome
@@ -28,14 +28,14 @@ module _ (s : Slots) (P : Slots → Type 0) where
       (λ e.
       cond-at (λ (r : OfferOutcome). P (r .slots)) (not (noSlot s isFree))
       (λ f.
-      let test : ℕ → Bool = λ i. isFree (stateOf s i) in
+      let test : ℕ → Bool = λ i. isFree (slotStateOf s i) in
       let l = some-passes (s .count) test (noSlot s isFree) (none-passes (s .count) test) (not-true _ f) in
       free (lowestSlot s isFree) l (lowest-test (s .count) test l))
       (λ f.
       cond-at (λ (r : OfferOutcome). P (r .slots)) (not (noSlot s (heldBelow x)))
       (λ g.
       let l = smallest-some s x (not-true _ g) in
-      replaced (not-false _ f) (not-true _ g) (lowestSlot s (smallestHeld s)) l (lowest-test (s .count) (λ i. smallestHeld s (stateOf s i)) l))
+      replaced (not-false _ f) (not-true _ g) (lowestSlot s (smallestHeld s)) l (lowest-test (s .count) (λ i. smallestHeld s (slotStateOf s i)) l))
       (λ g. away (not-false _ f) (not-false _ g))))
 
   pub choose-cases : P s → ((p : ℕ) → p < s .count → noSlot s isSending ≡ true → P (changed s p Sending)) → P (chooseOutcome s .slots)
@@ -48,7 +48,7 @@ module _ (s : Slots) (P : Slots → Type 0) where
       cond-at (λ (r : SlotsOutcome). P (r .slots)) (noSlot s isHeld) (λ g. same)
       (λ g.
       chosen (lowestSlot s (greatestHeld s))
-      (some-passes (s .count) (λ i. greatestHeld s (stateOf s i)) (noSlot s isHeld) (greatest-none s) g)
+      (some-passes (s .count) (λ i. greatestHeld s (slotStateOf s i)) (noSlot s isHeld) (greatest-none s) g)
       (not-false _ f))))
 
   pub finish-cases : P s → ((p : ℕ) → p < s .count → P (changed s p Free)) → P (finishOutcome s .slots)
@@ -58,5 +58,5 @@ module _ (s : Slots) (P : Slots → Type 0) where
       (λ e.
       cond-at (λ (r : SlotsOutcome). P (r .slots)) (noSlot s isSending) (λ f. same)
       (λ f.
-      let test : ℕ → Bool = λ i. isSending (stateOf s i) in
+      let test : ℕ → Bool = λ i. isSending (slotStateOf s i) in
       finished (lowestSlot s isSending) (some-passes (s .count) test (noSlot s isSending) (none-passes (s .count) test) f)))

@@ -12,7 +12,7 @@ use Rattle.lists.proofs.Choices.{by-cases}
 use Rattle.bursts.specs.declared.Slots.{Slots}
 use Rattle.bursts.specs.declared.SlotState.{SlotState}
 use Rattle.bursts.specs.declared.SlotState.the-variants.{Free, Held, Sending}
-use Rattle.bursts.specs.Slots.{stateOf, isFree, isSending, heldBelow, smallestHeld, noSlot, sendingSlots, sound, changed}
+use Rattle.bursts.specs.Slots.{slotStateOf, isFree, isSending, heldBelow, smallestHeld, noSlot, sendingSlots, sound, changed}
 use Rattle.bursts.specs.Calls.{Call, offer, choose, finish, perform, afterCalls, offers, NoFinish, Sound, heldFrom, heldAtLeast, offeredAtLeast, Proved}
 use Rattle.bursts.proofs.Rules.{sound-few}
 use Rattle.bursts.proofs.Cases.{offer-cases}
@@ -31,8 +31,8 @@ unfolding afterCalls
 all-many [] s ok = refl
 all-many (c ∷ cs) s ok = all-many cs (perform s c) (kept.stays-sound c s ok) ∙ kept.as-many c s ok
 
-all-stays : (cs : List Call) (s : Slots) → Sound s → NoFinish cs → (i : ℕ) → i < s .count → stateOf s i ≡ Sending →
-    stateOf (afterCalls s cs) i ≡ Sending
+all-stays : (cs : List Call) (s : Slots) → Sound s → NoFinish cs → (i : ℕ) → i < s .count → slotStateOf s i ≡ Sending →
+    slotStateOf (afterCalls s cs) i ≡ Sending
 unfolding afterCalls
 all-stays [] s ok h i l e = e
 all-stays (offer x ∷ cs) s ok h i l e =
@@ -56,8 +56,8 @@ unfolding heldAtLeast sendingSlots
 full s m x h f g k =
     passing-all (heldFrom x) s
     (λ i l.
-    held-all (stateOf s i) m x h (allTo-at (s .count) (λ j. not (isFree (stateOf s j))) f i l) (passing-none isSending s g i l)
-    (allTo-at (s .count) (λ j. not (heldBelow m (stateOf s j))) k i l))
+    held-all (slotStateOf s i) m x h (allTo-at (s .count) (λ j. not (isFree (slotStateOf s j))) f i l) (passing-none isSending s g i l)
+    (allTo-at (s .count) (λ j. not (heldBelow m (slotStateOf s j))) k i l))
 
 -- one offer
 free-none : (x : ℕ) (a : SlotState) → isFree a ≡ true → _≡_ {A = ℕ} (cond (heldFrom x a) 1 0) 0
@@ -71,8 +71,8 @@ smaller-than s m y k g =
     by-cases (ltb m y) (ltb-true m y)
     (λ e.
     let none : noSlot s (heldBelow y) ≡ true =
-    allTo-of (s .count) (λ j. not (heldBelow y (stateOf s j)))
-    (λ j l. less (stateOf s j) (ltb-false m y e) (allTo-at (s .count) (λ i. not (heldBelow m (stateOf s i))) k j l)) in
+    allTo-of (s .count) (λ j. not (heldBelow y (slotStateOf s j)))
+    (λ j l. less (slotStateOf s j) (ltb-false m y e) (allTo-at (s .count) (λ i. not (heldBelow m (slotStateOf s i))) k j l)) in
     absurd (true≢false (sym none ∙ g)))
   where
     less : (a : SlotState) → y ≤ m → not (heldBelow m a) ≡ true → not (heldBelow y a) ≡ true
@@ -98,12 +98,12 @@ offer-best : (s : Slots) → Sound s → sendingSlots s ≡ 0 → (y x : ℕ) �
 unfolding heldAtLeast
 offer-best s ok z y x =
     let within : (p : ℕ) → p < s .count → p < length (s .slot) = λ p l. omega (arith, ok .whole, sound-few s (ok .state)) in
-    let one : (p : ℕ) → p < s .count → heldAtLeast x (changed s p (Held y)) + cond (heldFrom x (stateOf s p)) 1 0 ≡ heldAtLeast x s + cond (leb x y) 1 0 =
+    let one : (p : ℕ) → p < s .count → heldAtLeast x (changed s p (Held y)) + cond (heldFrom x (slotStateOf s p)) 1 0 ≡ heldAtLeast x s + cond (leb x y) 1 0 =
     λ p l. passing-changed (heldFrom x) s p (Held y) l (within p l) in
     let most = passing-le (heldFrom x) s in
     offer-cases s (λ (t : Slots). heldAtLeast x t ≡ min (s .count) (heldAtLeast x s + cond (leb x y) 1 0)) y
-    (λ p l f. omega (arith, one p l, free-none x (stateOf s p) f, passing-le (heldFrom x) (changed s p (Held y))))
-    (λ n g p l k. replaced-best s y x _ (stateOf s p) n z g k (passing-le (heldFrom x) (changed s p (Held y))) most (one p l))
+    (λ p l f. omega (arith, one p l, free-none x (slotStateOf s p) f, passing-le (heldFrom x) (changed s p (Held y))))
+    (λ n g p l k. replaced-best s y x _ (slotStateOf s p) n z g k (passing-le (heldFrom x) (changed s p (Held y))) most (one p l))
     (λ n g.
     by-cases (leb x y)
     (λ t. simp t (omega (arith, full s y x (leb-true x y t) n z g)))
@@ -131,7 +131,7 @@ all-best (y ∷ ys) s ok z x =
 turned-away-stays : (s : Slots) → Sound s → (x : ℕ) → noSlot s isFree ≡ true → noSlot s (heldBelow x) ≡ true → perform s (offer x) ≡ s
 turned-away-stays s ok x f g =
     offer-cases s (λ (t : Slots). t ≡ s) x
-    (λ p l e. absurd (true≢false (sym (allTo-at (s .count) (λ j. not (isFree (stateOf s j))) f p l) ∙ ap not e)))
+    (λ p l e. absurd (true≢false (sym (allTo-at (s .count) (λ j. not (isFree (slotStateOf s j))) f p l) ∙ ap not e)))
     (λ n h p l k. absurd (true≢false (sym g ∙ h)))
     (λ n h. refl)
     (ok .state)

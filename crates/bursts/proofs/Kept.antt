@@ -11,7 +11,7 @@ use Rattle.lists.proofs.Choices.{both}
 use Rattle.bursts.specs.declared.Slots.{Slots}
 use Rattle.bursts.specs.declared.SlotState.{SlotState}
 use Rattle.bursts.specs.declared.SlotState.the-variants.{Free, Held, Sending}
-use Rattle.bursts.specs.Slots.{stateOf, isFree, isSending, smallestHeld, noSlot, sendingSlots, sound, changed, becomes, finishOutcome}
+use Rattle.bursts.specs.Slots.{slotStateOf, isFree, isSending, smallestHeld, noSlot, sendingSlots, sound, changed, becomes, finishOutcome}
 use Rattle.bursts.specs.Calls.{Call, offer, choose, finish, perform, Sound}
 use Rattle.lists.proofs.Lowest.{lowest-at}
 use Rattle.bursts.proofs.Rules.{sound-few}
@@ -31,7 +31,7 @@ within : (s : Slots) → Sound s → (p : ℕ) → p < s .count → p < length (
 within s ok p l = omega (arith, ok .whole, sound-few s (ok .state))
 
 sending-changed : (s : Slots) → Sound s → (p : ℕ) (a : SlotState) → p < s .count →
-    sendingSlots (changed s p a) + cond (isSending (stateOf s p)) 1 0 ≡ sendingSlots s + cond (isSending a) 1 0
+    sendingSlots (changed s p a) + cond (isSending (slotStateOf s p)) 1 0 ≡ sendingSlots s + cond (isSending a) 1 0
 unfolding sendingSlots
 sending-changed s ok p a l = passing-changed isSending s p a l (within s ok p l)
 
@@ -73,28 +73,28 @@ as-many finish s ok = finish-cases s (λ (t : Slots). t .count ≡ s .count) ref
 never : {A : Type 0} (test : SlotState → Bool) (a : SlotState) → test Sending ≡ false → a ≡ Sending → test a ≡ true → A
 never test a f e t = absurd (true≢false (sym t ∙ ap test e ∙ f))
 
-pub offer-stays : (x : ℕ) (s : Slots) → Sound s → (i : ℕ) → stateOf s i ≡ Sending → stateOf (perform s (offer x)) i ≡ Sending
+pub offer-stays : (x : ℕ) (s : Slots) → Sound s → (i : ℕ) → slotStateOf s i ≡ Sending → slotStateOf (perform s (offer x)) i ≡ Sending
 offer-stays x s ok i e =
-    offer-cases s (λ (t : Slots). stateOf t i ≡ Sending) x
-    (λ p l f. changed-other s p i (Held x) (λ q. never isFree (stateOf s p) refl (ap (stateOf s) (sym q) ∙ e) f) ∙ e)
-    (λ n g p l f. changed-other s p i (Held x) (λ q. never (smallestHeld s) (stateOf s p) refl (ap (stateOf s) (sym q) ∙ e) f) ∙ e)
+    offer-cases s (λ (t : Slots). slotStateOf t i ≡ Sending) x
+    (λ p l f. changed-other s p i (Held x) (λ q. never isFree (slotStateOf s p) refl (ap (slotStateOf s) (sym q) ∙ e) f) ∙ e)
+    (λ n g p l f. changed-other s p i (Held x) (λ q. never (smallestHeld s) (slotStateOf s p) refl (ap (slotStateOf s) (sym q) ∙ e) f) ∙ e)
     (λ n g. e)
     (ok .state)
 
-some-sending : (s : Slots) (i : ℕ) → i < s .count → stateOf s i ≡ Sending → noSlot s isSending ≡ false
-some-sending s i l e = allTo-false (λ j. not (isSending (stateOf s j))) (s .count) i l (ap (λ (a : SlotState). not (isSending a)) e)
+some-sending : (s : Slots) (i : ℕ) → i < s .count → slotStateOf s i ≡ Sending → noSlot s isSending ≡ false
+some-sending s i l e = allTo-false (λ j. not (isSending (slotStateOf s j))) (s .count) i l (ap (λ (a : SlotState). not (isSending a)) e)
 
 -- only one is sending, so it is the one that is finished
-pub sending-finished : (s : Slots) → Sound s → (i : ℕ) → i < s .count → stateOf s i ≡ Sending → finishOutcome s ≡ becomes s i Free
+pub sending-finished : (s : Slots) → Sound s → (i : ℕ) → i < s .count → slotStateOf s i ≡ Sending → finishOutcome s ≡ becomes s i Free
 unfolding finishOutcome sendingSlots
 sending-finished s ok i l e =
-    let here : _≡_ {A = ℕ} (cond (isSending (stateOf s i)) 1 0) 1 = ap (λ (a : SlotState). cond (isSending a) 1 0) e in
+    let here : _≡_ {A = ℕ} (cond (isSending (slotStateOf s i)) 1 0) 1 = ap (λ (a : SlotState). cond (isSending a) 1 0) e in
     let none : passing isSending (changed s i Free) ≡ 0 =
     omega (arith, here, passing-changed isSending s i Free l (within s ok i l), sound-sending s (ok .state)) in
-    let before : (j : ℕ) → j < i → isSending (stateOf s j) ≡ false =
+    let before : (j : ℕ) → j < i → isSending (slotStateOf s j) ≡ false =
     λ j h. ap isSending (sym (changed-other s i j Free (λ q. omega arith))) ∙ passing-none isSending (changed s i Free) none j (omega arith) in
-    simp (ok .state, some-sending s i l e, lowest-at (s .count) (λ j. isSending (stateOf s j)) i l (ap isSending e) before)
+    simp (ok .state, some-sending s i l e, lowest-at (s .count) (λ j. isSending (slotStateOf s j)) i l (ap isSending e) before)
 
-pub choose-stays : (s : Slots) (i : ℕ) → i < s .count → stateOf s i ≡ Sending → stateOf (perform s choose) i ≡ Sending
+pub choose-stays : (s : Slots) (i : ℕ) → i < s .count → slotStateOf s i ≡ Sending → slotStateOf (perform s choose) i ≡ Sending
 choose-stays s i l e =
-    choose-cases s (λ (t : Slots). stateOf t i ≡ Sending) e (λ p h n. absurd (true≢false (sym n ∙ some-sending s i l e)))
+    choose-cases s (λ (t : Slots). slotStateOf t i ≡ Sending) e (λ p h n. absurd (true≢false (sym n ∙ some-sending s i l e)))

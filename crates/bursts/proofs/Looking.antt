@@ -10,7 +10,7 @@ use Rattle.bursts.specs.declared.Slots.{Slots}
 use Rattle.bursts.specs.declared.SlotState.{SlotState}
 use Rattle.bursts.specs.declared.SlotState.the-variants.{Free, Held, Sending}
 use Rattle.lists.specs.Lowest.{lowest}
-use Rattle.bursts.specs.Slots.{stateOf, isFree, heldBelow, lowestSlot, noSlot, smallestHeld, sound, lookedAt, OfferAnswered, takes, refusedAfter, offerOutcome}
+use Rattle.bursts.specs.Slots.{slotStateOf, isFree, heldBelow, lowestSlot, noSlot, smallestHeld, sound, lookedAt, OfferAnswered, takes, refusedAfter, offerOutcome}
 use Rattle.bursts.specs.Searches.{placeFor}
 use Rattle.bursts.specs.Looked.{AgreeBelow, SameAnswer}
 use Rattle.lists.proofs.Lowest.{lowest-at, lowest-ext, lowest-before, lowest-test, none-passes}
@@ -23,7 +23,7 @@ module _ (s t : Slots) (many : s .count ≡ t .count) where
   module _ (agree : AgreeBelow (s .count) s t) where
     same-none : (test : SlotState → Bool) → noSlot s test ≡ noSlot t test
     same-none test =
-        allTo-ext (s .count) (λ i. not (test (stateOf s i))) (λ i. not (test (stateOf t i))) (λ i l. ap (λ (a : SlotState). not (test a)) (agree i l))
+        allTo-ext (s .count) (λ i. not (test (slotStateOf s i))) (λ i. not (test (slotStateOf t i))) (λ i l. ap (λ (a : SlotState). not (test a)) (agree i l))
         ∙ rw many
 
     same-smallest : (a : SlotState) → smallestHeld s a ≡ smallestHeld t a
@@ -33,8 +33,8 @@ module _ (s t : Slots) (many : s .count ≡ t .count) where
 
     same-place : lowestSlot s (smallestHeld s) ≡ lowestSlot t (smallestHeld t)
     same-place =
-        lowest-ext (s .count) (λ i. smallestHeld s (stateOf s i)) (λ i. smallestHeld t (stateOf t i))
-        (λ i l. same-smallest (stateOf s i) ∙ ap (smallestHeld t) (agree i l))
+        lowest-ext (s .count) (λ i. smallestHeld s (slotStateOf s i)) (λ i. smallestHeld t (slotStateOf t i))
+        (λ i l. same-smallest (slotStateOf s i) ∙ ap (smallestHeld t) (agree i l))
         ∙ rw many
 
   -- ---- the search
@@ -50,13 +50,13 @@ module _ (s t : Slots) (many : s .count ≡ t .count) where
       (simp (e, e′) (first ∙ ap₂ (cond (noSlot t (heldBelow x))) many (same-place all)), simp (e, e′) many))
       (λ e.
       let far = subst (λ (n : ℕ). AgreeBelow n s t) (cond-false (noSlot s isFree) (s .count) _ e) agree in
-      let free : ℕ → Bool = λ i. isFree (stateOf s i) in
+      let free : ℕ → Bool = λ i. isFree (slotStateOf s i) in
       let p = lowestSlot s isFree in
       let l : p < s .count = some-passes (s .count) free (noSlot s isFree) (none-passes (s .count) free) e in
-      let here : isFree (stateOf t p) ≡ true = ap isFree (sym (far p (omega arith))) ∙ lowest-test (s .count) free l in
-      let e′ : noSlot t isFree ≡ false = allTo-false (λ i. not (isFree (stateOf t i))) (t .count) p (omega arith) (ap not here) in
+      let here : isFree (slotStateOf t p) ≡ true = ap isFree (sym (far p (omega arith))) ∙ lowest-test (s .count) free l in
+      let e′ : noSlot t isFree ≡ false = allTo-false (λ i. not (isFree (slotStateOf t i))) (t .count) p (omega arith) (ap not here) in
       let q : lowestSlot t isFree ≡ p =
-      lowest-at (t .count) (λ i. isFree (stateOf t i)) p (omega arith) here
+      lowest-at (t .count) (λ i. isFree (slotStateOf t i)) p (omega arith) here
       (λ j h. ap isFree (sym (far j (omega arith))) ∙ lowest-before (s .count) free j h) in
       (simp (e, e′) (sym q), simp (e, e′) (ap (λ (n : ℕ). n + 1) (sym q))))
 

@@ -8,7 +8,7 @@ use lib.Dec.{ltb}
 use Rattle.lists.proofs.Choices.{by-cases, both, cond-true, cond-false}
 use Rattle.bursts.specs.declared.Slots.{Slots}
 use Rattle.bursts.specs.declared.SlotState.the-variants.{Free, Held, Sending}
-use Rattle.bursts.specs.Slots.{stateOf, isFree, isHeld, isSending, heldBelow, lowestSlot, noSlot, smallestHeld, greatestHeld, sound, SlotsOutcome, refusedBy, becomes, lookedAt, OfferOutcome, refusedAfter, refusedAlone, taken, offerOutcome, chooseOutcome, finishOutcome}
+use Rattle.bursts.specs.Slots.{slotStateOf, isFree, isHeld, isSending, heldBelow, lowestSlot, noSlot, smallestHeld, greatestHeld, sound, SlotsOutcome, refusedBy, becomes, lookedAt, OfferOutcome, refusedAfter, refusedAlone, taken, offerOutcome, chooseOutcome, finishOutcome}
 use Rattle.bursts.specs.Searches.{placeFor}
 use Rattle.lists.proofs.Lowest.{none-passes}
 use Rattle.bursts.proofs.Finding.{smallest-some, greatest-none}
@@ -33,7 +33,7 @@ offer-by-place s x =
     by-cases (noSlot s (heldBelow x))
     (λ f. simp (e, f, le-ltb (s .count) (s .count) (omega arith)))
     (λ f. simp (e, f, lt-ltb _ _ (smallest-some s x f))))
-    (λ e. simp (e, some-below (noSlot s isFree) (lowestSlot s isFree) (s .count) (none-passes (s .count) (λ i. isFree (stateOf s i))) e)))
+    (λ e. simp (e, some-below (noSlot s isFree) (lowestSlot s isFree) (s .count) (none-passes (s .count) (λ i. isFree (slotStateOf s i))) e)))
 
 cond-not : {A : Type 0} (t b : Bool) (x y : A) → t ≡ not b → cond t x y ≡ cond b y x
 cond-not t true x y e = rw e
@@ -46,7 +46,7 @@ pub choose-by-place : (s : Slots) →
     (cond (ltb (lowestSlot s (greatestHeld s)) (s .count)) (becomes s (lowestSlot s (greatestHeld s)) Sending) (refusedBy 26 s)))
 unfolding chooseOutcome
 choose-by-place s =
-    let none = none-passes (s .count) (λ i. isSending (stateOf s i)) in
+    let none = none-passes (s .count) (λ i. isSending (slotStateOf s i)) in
     ap (λ (r : SlotsOutcome). cond (not (sound s)) (refusedBy 3 s) r)
     (ap (λ (r : SlotsOutcome). cond (not (noSlot s isSending)) (refusedBy 27 s) r) (cond-not (noSlot s isHeld) (ltb (lowestSlot s (greatestHeld s)) (s .count)) (refusedBy 26 s) _ (greatest-none s))
     ∙ cond-not (not (noSlot s isSending)) (noSlot s isSending) (refusedBy 27 s) _ refl
@@ -59,4 +59,4 @@ pub finish-by-place : (s : Slots) →
 unfolding finishOutcome
 finish-by-place s =
     ap (λ (r : SlotsOutcome). cond (not (sound s)) (refusedBy 3 s) r)
-    (cond-not (noSlot s isSending) (ltb (lowestSlot s isSending) (s .count)) (refusedBy 28 s) _ (none-passes (s .count) (λ i. isSending (stateOf s i))))
+    (cond-not (noSlot s isSending) (ltb (lowestSlot s isSending) (s .count)) (refusedBy 28 s) _ (none-passes (s .count) (λ i. isSending (slotStateOf s i))))

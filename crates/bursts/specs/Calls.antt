@@ -9,7 +9,7 @@ use Rattle.lists.specs.Sums.{sumTo}
 use Rattle.bursts.specs.declared.SlotState.{SlotState}
 use Rattle.bursts.specs.declared.SlotState.the-variants.{Free, Held, Sending}
 use Rattle.bursts.specs.declared.Slots.{Slots}
-use Rattle.bursts.specs.Slots.{stateOf, isFree, heldBelow, noSlot, sendingSlots, sound, becomes, offerOutcome, chooseOutcome, finishOutcome}
+use Rattle.bursts.specs.Slots.{slotStateOf, isFree, heldBelow, noSlot, sendingSlots, sound, becomes, offerOutcome, chooseOutcome, finishOutcome}
 
 pub data Call : Type 0 where
   offer : ℕ → Call
@@ -51,7 +51,7 @@ heldFrom x (Held c) = leb x c
 heldFrom x Sending = false
 
 unfoldable pub heldAtLeast : ℕ → Slots → ℕ
-heldAtLeast x s = sumTo (s .count) (λ i. cond (heldFrom x (stateOf s i)) 1 0)
+heldAtLeast x s = sumTo (s .count) (λ i. cond (heldFrom x (slotStateOf s i)) 1 0)
 
 unfoldable pub offeredAtLeast : ℕ → List ℕ → ℕ
 offeredAtLeast x [] = 0
@@ -67,8 +67,8 @@ offeredAtLeast x (y ∷ ys) = cond (leb x y) 1 0 + offeredAtLeast x ys
 pub record Proved (s : Slots) : Type 0 where
   pub stays-sound : (cs : List Call) → Sound (afterCalls s cs)
   pub as-many : (cs : List Call) → afterCalls s cs .count ≡ s .count
-  pub sending-stays : (cs : List Call) → NoFinish cs → (i : ℕ) → i < s .count → stateOf s i ≡ Sending → stateOf (afterCalls s cs) i ≡ Sending
-  pub sending-finished : (i : ℕ) → i < s .count → stateOf s i ≡ Sending → finishOutcome s ≡ becomes s i Free
+  pub sending-stays : (cs : List Call) → NoFinish cs → (i : ℕ) → i < s .count → slotStateOf s i ≡ Sending → slotStateOf (afterCalls s cs) i ≡ Sending
+  pub sending-finished : (i : ℕ) → i < s .count → slotStateOf s i ≡ Sending → finishOutcome s ≡ becomes s i Free
   pub best-held : sendingSlots s ≡ 0 → (xs : List ℕ) (x : ℕ) →
       heldAtLeast x (afterCalls s (offers xs)) ≡ min (s .count) (heldAtLeast x s + offeredAtLeast x xs)
   pub turned-away-stays : (x : ℕ) → noSlot s isFree ≡ true → noSlot s (heldBelow x) ≡ true → perform s (offer x) ≡ s

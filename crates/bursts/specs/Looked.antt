@@ -3,11 +3,11 @@ use Prim.Native.Nat.{ℕ, _<_}
 use mathlib.Core.Path.{_≡_}
 use mathlib.Core.Bool.{true}
 use Rattle.bursts.specs.declared.Slots.{Slots}
-use Rattle.bursts.specs.Slots.{stateOf, sound, lookedAt, offerOutcome}
+use Rattle.bursts.specs.Slots.{slotStateOf, sound, lookedAt, offerOutcome}
 
 -- the first n slots are in the same states
 abbrev pub AgreeBelow : ℕ → Slots → Slots → Type 0
-AgreeBelow n s t = (j : ℕ) → j < n → stateOf s j ≡ stateOf t j
+AgreeBelow n s t = (j : ℕ) → j < n → slotStateOf s j ≡ slotStateOf t j
 
 -- The offer looks at the first `lookedAt s` slots: up to and including the first free one, or all of them. The answer is the slot and the
 -- number, or 25 and the number.

@@ -18,8 +18,8 @@ use Rattle.bursts.specs.declared.Offered.{Offered}
 
 -- ---- the state of slot i
 
-abbrev pub stateOf : Slots → ℕ → SlotState
-stateOf s i = getD (s .slot) i (record { state = Free }) .state
+abbrev pub slotStateOf : Slots → ℕ → SlotState
+slotStateOf s i = getD (s .slot) i (record { state = Free }) .state
 
 abbrev pub isFree : SlotState → Bool
 isFree Free = true
@@ -52,11 +52,11 @@ heldAbove x Sending = false
 
 -- the lowest that does; the number of slots if none does
 abbrev pub lowestSlot : Slots → (SlotState → Bool) → ℕ
-lowestSlot s test = lowest (s .count) (λ i. test (stateOf s i))
+lowestSlot s test = lowest (s .count) (λ i. test (slotStateOf s i))
 
 -- none does
 abbrev pub noSlot : Slots → (SlotState → Bool) → Bool
-noSlot s test = allTo (s .count) (λ i. not (test (stateOf s i)))
+noSlot s test = allTo (s .count) (λ i. not (test (slotStateOf s i)))
 
 -- held, and no slot is held with a smaller criterion
 abbrev pub smallestHeld : Slots → SlotState → Bool
@@ -73,7 +73,7 @@ greatestHeld s Sending = false
 -- ---- a sound state: at most 32 slots, and at most one sending
 
 unfoldable pub sendingSlots : Slots → ℕ
-sendingSlots s = sumTo (s .count) (λ i. cond (isSending (stateOf s i)) 1 0)
+sendingSlots s = sumTo (s .count) (λ i. cond (isSending (slotStateOf s i)) 1 0)
 
 unfoldable pub sound : Slots → Bool
 sound s = leb (s .count) 32 && leb (sendingSlots s) 1
@@ -84,12 +84,12 @@ pub record SlotsOutcome : Type 0 where
   pub answer : Outcome ℕ
   pub slots : Slots
 
-abbrev pub answerOutcome : Answer → Outcome ℕ
-answerOutcome (Answer.Slot i) = given i
-answerOutcome (Answer.Refused r) = refused (numberOf r)
+abbrev pub slotOutcome : Answer → Outcome ℕ
+slotOutcome (Answer.Slot i) = given i
+slotOutcome (Answer.Refused r) = refused (numberOf r)
 
 abbrev pub doneOutcome : Done → SlotsOutcome
-doneOutcome d = record { answer = answerOutcome (d .answer); slots = d .slots }
+doneOutcome d = record { answer = slotOutcome (d .answer); slots = d .slots }
 
 -- refused: the slots are as they were
 abbrev pub refusedBy : ℕ → Slots → SlotsOutcome

@@ -32,7 +32,7 @@ use Rattle.dfb_board.specs.Apart.{isRefused, isReported}
 use Rattle.dfb_board.specs.Apart as apart
 
 abbrev RepliesApart : Reply ℕ → Type 0
-RepliesApart r = apart.ToldApart (replyNumber r) (isRefused r) (isReported r)
+RepliesApart r = apart.ReplyToldApart (replyNumber r) (isRefused r) (isReported r)
 
 abbrev Commands : CommandOutcome → Type 0
 Commands o = RepliesApart (o .answer)
@@ -109,24 +109,24 @@ module _ (state : List ℕ) where
 
   module _ (totals : List ℕ) where
     command-cases : (t : Bool) (o : CommandOutcome) → RepliesApart (o .answer) →
-        apart.ToldApart (cond (not t) (record { answer = above16 + 2; state = state; totals = totals }) (commandLeft o) .answer) (not t || isRefused (o .answer)) (t && isReported (o .answer))
+        apart.ReplyToldApart (cond (not t) (record { answer = above16 + 2; state = state; totals = totals }) (commandLeft o) .answer) (not t || isRefused (o .answer)) (t && isReported (o .answer))
     command-cases true o a = a
     command-cases false o a = record { refused = refl; reported = refl }
 
     pub command-call-apart : (id v : ℕ) →
-        apart.ToldApart (commandCall state totals id v .answer)
+        apart.ReplyToldApart (commandCall state totals id v .answer)
         (not (eqb (length state) 8) || isRefused (commandOutcome (stateOf state) totals id v .answer))
         (eqb (length state) 8 && isReported (commandOutcome (stateOf state) totals id v .answer))
     unfolding commandCall
     command-call-apart id v = command-cases (eqb (length state) 8) (commandOutcome (stateOf state) totals id v) (command-apart (stateOf state) totals id v)
 
     tick-cases : (out : List ℕ) (t : Bool) (o : TickOutcome) → RepliesApart (o .answer) →
-        apart.ToldApart (cond (not t) (record { answer = above16 + 2; state = state; totals = totals; out = out }) (tickLeft o) .answer) (not t || isRefused (o .answer)) (t && isReported (o .answer))
+        apart.ReplyToldApart (cond (not t) (record { answer = above16 + 2; state = state; totals = totals; out = out }) (tickLeft o) .answer) (not t || isRefused (o .answer)) (t && isReported (o .answer))
     tick-cases out true o a = a
     tick-cases out false o a = record { refused = refl; reported = refl }
 
     pub tick-call-apart : (powers out : List ℕ) →
-        apart.ToldApart (tickCall state totals powers out .answer)
+        apart.ReplyToldApart (tickCall state totals powers out .answer)
         (not (eqb (length state) 8) || isRefused (tickOutcome (stateOf state) totals powers out .answer))
         (eqb (length state) 8 && isReported (tickOutcome (stateOf state) totals powers out .answer))
     unfolding tickCall

@@ -24,6 +24,6 @@ isReported reply.waiting = false
 isReported (reply.reported words) = true
 
 -- the number is that of a refusal, or of a report, exactly where the answer is one; a report has at most 392 words
-pub record ToldApart (number : ℕ) (refusal report : Bool) : Type 0 where
+pub record ReplyToldApart (number : ℕ) (refusal report : Bool) : Type 0 where
   pub refused : (leb above16 number && ltb number 0x20000) ≡ refusal
   pub reported : (leb 0x20000 number && leb number (0x20000 + 392)) ≡ report

@@ -103,7 +103,7 @@ pub extern "C" fn dfb_read(state: &[u16], id: u8) -> u32
     if state.len() != STATE {
         return numbers::above_16(Refusal::WrongLength);
     }
-    answer_16(board::read(load(state), id))
+    answer_16(load(state).read(id))
 }
 
 // A tick with 7 rows of 1,024 powers; a report writes 3 bytes for each word from the start of out. Refused by 2, then 3, then 13.

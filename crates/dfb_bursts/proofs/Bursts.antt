@@ -17,7 +17,7 @@ use Rattle.bursts.specs.declared.Slot.{Slot}
 use Rattle.bursts.specs.declared.Slots.{Slots}
 use Rattle.bursts.specs.declared.SlotState.the-variants.{Free}
 use Rattle.refusal.specs.Outcome.{given, refused}
-use Rattle.bursts.specs.Slots.{stateOf, isFree, isSending, greatestHeld, lowestSlot, noSlot, sound, lookedAt, SlotsOutcome, takes, refusedAfter, OfferOutcome, offerOutcome, chooseOutcome, finishOutcome}
+use Rattle.bursts.specs.Slots.{slotStateOf, isFree, isSending, greatestHeld, lowestSlot, noSlot, sound, lookedAt, SlotsOutcome, takes, refusedAfter, OfferOutcome, offerOutcome, chooseOutcome, finishOutcome}
 use Rattle.bursts.specs.Searches.{placeFor}
 use Rattle.bursts.proofs.Rules.{sound-few, offer-by-place, choose-by-place, finish-by-place}
 use Rattle.numbers.specs.Numbers.{above16, Below}
@@ -136,7 +136,7 @@ module _ (status criteria : List ℕ) where
   unfolding lookedAt
   looked-few s =
       cond-at (λ (n : ℕ). n ≤ s .count + 1) (noSlot s isFree) (λ e. omega arith)
-      (λ e. omega (arith, lowest-le (s .count) (λ i. isFree (stateOf s i))))
+      (λ e. omega (arith, lowest-le (s .count) (λ i. isFree (slotStateOf s i))))
 
   offer-taken : (i looked : ℕ) (s : Slots) → i < 32 → looked ≤ 33 → SmallOffer (record { answer = takes i looked; slots = s })
   offer-taken i looked s h k =

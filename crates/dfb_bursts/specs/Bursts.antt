@@ -11,7 +11,7 @@ use Rattle.bursts.specs.declared.SlotState.{SlotState}
 use Rattle.bursts.specs.declared.SlotState.the-variants.{Free, Held, Sending}
 use Rattle.bursts.specs.declared.Slot.{Slot}
 use Rattle.bursts.specs.declared.Slots.{Slots}
-use Rattle.bursts.specs.Slots.{stateOf, OfferAnswered, takes, refusedAfter, refusedAlone, offerOutcome, chooseOutcome, finishOutcome}
+use Rattle.bursts.specs.Slots.{slotStateOf, OfferAnswered, takes, refusedAfter, refusedAlone, offerOutcome, chooseOutcome, finishOutcome}
 use Rattle.numbers.specs.Numbers.{above16}
 
 -- ---- slots as two lists
@@ -48,10 +48,10 @@ slotsOf status criteria =
     record { slot = tabulate 32 (λ i. slotFrom (getD status i 0) (getD criteria i 0)); count = length status }
 
 abbrev pub statuses : ℕ → Slots → List ℕ
-statuses n s = tabulate n (λ i. statusOf (stateOf s i))
+statuses n s = tabulate n (λ i. statusOf (slotStateOf s i))
 
 abbrev pub criteriaOf : ℕ → Slots → List ℕ
-criteriaOf n s = tabulate n (λ i. criterionOf (stateOf s i))
+criteriaOf n s = tabulate n (λ i. criterionOf (slotStateOf s i))
 
 -- ---- what a call leaves
 

@@ -2,7 +2,7 @@
 ghost use mathlib.Core.Path.{_≡_};
 ghost use Prim.Native.Nat.{_+_, _*_, _^_, _≤_, _<_};
 ghost use lib.ListN.{length};
-ghost use Rattle.bursts.specs.Slots.{doneOutcome, offeredOutcome, answerOutcome, offerAnswerOutcome};
+ghost use Rattle.bursts.specs.Slots.{doneOutcome, offeredOutcome, slotOutcome, offerAnswerOutcome};
 ghost use Rattle.dfb_bursts.specs.Bursts.{slotFrom, statusOf, criterionOf, areSlots, listsRefused, slotsOf, statuses, criteriaOf, BurstCall, doneCall, offerCall, burstOffer, burstChoose, burstFinish};
 use bursts::Answer;
 use bursts::Done;
@@ -131,8 +131,8 @@ fn store_slots(status: &mut [u8], criteria: &mut [u32], slots: Slots)
 fn write_done(status: &mut [u8], criteria: &mut [u32], done: Done) -> u32
     requires { ⌜ length (now status) ≤ 32 ⌝ }
     requires { ⌜ length (now status) ≡ length (now criteria) ⌝ }
-    requires { ⌜ doneCall (now status) (now criteria) (answerOutcome (done .answer)) (done .slots) .answer < 2 ^ 32 ⌝ }
-    ensures { λ r. ⌜ record { answer = r; status = now (status .exit); criteria = now (criteria .exit) } ≡ doneCall (now (status .entry)) (now (criteria .entry)) (answerOutcome (done .answer)) (done .slots) ⌝ }
+    requires { ⌜ doneCall (now status) (now criteria) (slotOutcome (done .answer)) (done .slots) .answer < 2 ^ 32 ⌝ }
+    ensures { λ r. ⌜ record { answer = r; status = now (status .exit); criteria = now (criteria .exit) } ≡ doneCall (now (status .entry)) (now (criteria .entry)) (slotOutcome (done .answer)) (done .slots) ⌝ }
 {
     let answer = done.answer;
     match answer {

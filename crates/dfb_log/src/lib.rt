@@ -103,7 +103,10 @@ fn record_of(kind: u8, a: u8, b: u32) -> Record
 pub extern "C" fn dfb_append(log: &mut [u8], used: usize, kind: u8, a: u8, b: u32) -> u64
     ensures { λ r. ⌜ record { answer = r; buffer = now (log .exit) } ≡ filledNumber above63 (appendKind (now (log .entry)) used kind a b) ⌝ }
 {
-    if !log::is_kind(kind) {
+    if kind < log::COMMAND {
+        return numbers::above_63(Refusal::UnknownRecordKind);
+    }
+    if log::TICK < kind {
         return numbers::above_63(Refusal::UnknownRecordKind);
     }
     if is_wide(kind, b) {

@@ -1,6 +1,7 @@
 // The rules of the board as definitions, its reference model, and demand 3 (01, "Periods" and "Demand 3 and its plain book").
-// The only code is the state's reset: crate `board` has the functions that meet these rules.
+// The only code is the state's reset and read: crate `board` has the functions that meet the other rules.
 ghost use mathlib.Core.Path.{_≡_};
+ghost use Rattle.registers.specs.Access.{answerOutcome, registerRead};
 ghost use Rattle.model.specs.Board.{resetState};
 use refusal::Refusal;
 use registers::Answer;
@@ -57,5 +58,20 @@ impl State {
             registers: Registers::reset(),
             phase: 0,
         }
+    }
+
+    // The stored value of the register of the ID. Refused by 3, for the registers only, then 1.
+    pub fn read(self, id: u8) -> Answer
+        ensures { λ r. ⌜ answerOutcome r ≡ registerRead (self .registers) id ⌝ }
+    {
+        let registers = self.registers;
+        if !store::is_sound(registers) {
+            return Answer::Refused(Refusal::UnsoundState);
+        }
+        if !registers::is_id(id) {
+            return Answer::Refused(Refusal::UnknownCommand);
+        }
+        let n = (id - Registers::FIRST_ID) as usize;
+        Answer::Value(registers.value[n])
     }
 }

@@ -1,4 +1,4 @@
--- For the contract of a private function only.
+-- For the contract of a private function of crate `store` only.
 use Prim.Native.Nat.{ℕ}
 use mathlib.Core.Bool.{Bool, _&&_}
 use lib.Dec.{leb}

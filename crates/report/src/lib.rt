@@ -112,7 +112,7 @@ fn write_rows(registers: Registers, totals: &[u64], out: &mut [u8]) -> usize
         let slot = n * State::BANDS;
         let at = 3 * written;
         written += write_if_enabled(
-            settings::enabled(registers, n),
+            processors::enabled(registers, n),
             setting,
             words,
             exponent,

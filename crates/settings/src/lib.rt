@@ -3,7 +3,7 @@
 ghost use mathlib.Core.Path.{_≡_};
 ghost use Prim.Native.Nat.{_^_, _≤_};
 ghost use Rattle.registers.specs.Store.{limited};
-ghost use Rattle.settings.specs.Settings.{settingOf, bandsOf, averagedSpectra, periodTicks, enabledOf, enabledCount, runningOf};
+ghost use Rattle.settings.specs.Settings.{settingOf, bandsOf, averagedSpectra, periodTicks};
 use registers::Registers;
 
 // The bin setting: 0, 1 or 2.
@@ -46,38 +46,4 @@ pub fn period_ticks(registers: Registers) -> u16
     ensures { λ r. ⌜ r ≡ periodTicks registers ⌝ }
 {
     two_to(registers.value[0] / 4096, Registers::NCAD_DEFAULT)
-}
-
-// Whether processor n, counted from 0, is enabled.
-pub fn enabled(registers: Registers, n: usize) -> bool
-    ensures { λ r. ⌜ r ≡ enabledOf registers n ⌝ }
-{
-    if n < Registers::COUNT {
-        registers.value[n] / 32 % 2 == 1
-    } else {
-        false
-    }
-}
-
-// How many processors are enabled.
-pub fn enabled_count(registers: Registers) -> usize
-    ensures { λ r. ⌜ r ≡ enabledCount registers ⌝ }
-{
-    let mut count: usize = 0;
-    for n in 0..Registers::COUNT {
-        if enabled(registers, n) {
-            count += 1;
-        }
-    }
-    count
-}
-
-// Whether some processor is enabled and N is at most C.
-pub fn running(registers: Registers) -> bool
-    ensures { λ r. ⌜ r ≡ runningOf registers ⌝ }
-{
-    if enabled_count(registers) == 0 {
-        return false;
-    }
-    averaged_spectra(registers) <= period_ticks(registers)
 }

@@ -1,22 +1,22 @@
--- Where no sum comes to 2 ^ 64, adding modulo 2 ^ 64 is adding; and cleared totals. Assumes nothing.
+-- Where no sum comes to 2 ^ 64, adding modulo 2 ^ 64 is adding. Assumes nothing.
 use Prim.Native.Nat.{ℕ, _+_, _*_, _-_, _^_, _≤_, _<_}
-use mathlib.Core.Path.{_≡_, sym, ap}
+use mathlib.Core.Path.{_≡_, sym}
 use mathlib.Core.Bool.{cond}
 use mathlib.Core.List.{List}
 use native.Mathlib.Nat.{add-zero, mod-eq-of-lt, mul-le-mul-right}
 use native.Mathlib.Omega.{arith}
 use lib.Dec.{ltb}
-use lib.ListN.{length, getD, replicate}
+use lib.ListN.{length, getD}
 use borrow.Author.Tests.{eq-eqb, ltb-true}
 use Rattle.lists.proofs.Choices.{both, cond-both}
 use Rattle.lists.proofs.Tables.{grid-ext, length-grid}
 use Rattle.bands.proofs.Settings.{range}
 use Rattle.settings.specs.Settings.{settingOf, bandsOf, enabledOf}
 use Rattle.registers.specs.declared.Registers.{Registers}
-use Rattle.model.specs.Totals.{inUse, widthOf, bandPower, slot, noTotals, added}
+use Rattle.model.specs.Totals.{inUse, widthOf, bandPower, slot, added}
 use Rattle.model.specs.Calls.{Powers}
 use Rattle.model.proofs.SpectraTotals.{bandPower-le}
-use Rattle.totals.specs.Adding.{addedSlot, addedModulo, cleared}
+use Rattle.totals.specs.Adding.{addedSlot, addedModulo}
 
 module _ (r : Registers) (totals powers : List ℕ) (small : (i : ℕ) → i < 784 → getD totals i 0 ≤ 2 ^ 62) (fit : Powers powers) where
   no-wrap : (n b : ℕ) → n < 7 → b < bandsOf r → b < 112 → slot totals n b + bandPower r powers n b < 2 ^ 64
@@ -37,7 +37,3 @@ module _ (r : Registers) (totals powers : List ℕ) (small : (i : ℕ) → i < 7
 pub length-added : (r : Registers) (totals powers : List ℕ) → length (added r totals powers) ≡ 784
 unfolding added
 length-added r totals powers = length-grid 7 112 (λ n b. slot totals n b + cond (inUse r n b) (bandPower r powers n b) 0)
-
-pub cleared-784 : (totals : List ℕ) → length totals ≡ 784 → cleared totals ≡ noTotals
-unfolding cleared noTotals
-cleared-784 totals e = ap (λ (n : ℕ). replicate n 0) e

@@ -1,9 +1,9 @@
--- 01, "Periods": the totals after a tick's powers are added, in 64-bit arithmetic, and after they are cleared. `added-plain` of
--- proofs/Laws.antt: wherever no total is over 2 ^ 62, the former are `added` of crate `model`.
+-- 01, "Periods": the totals after a tick's powers are added, in 64-bit arithmetic. `added-plain` of proofs/Laws.antt: wherever no total
+-- is over 2 ^ 62, they are `added` of crate `model`.
 use Prim.Native.Nat.{ℕ, _+_, _%_, _^_}
 use mathlib.Core.Bool.{cond, _&&_}
 use mathlib.Core.List.{List}
-use lib.ListN.{length, replicate}
+use lib.ListN.{length}
 use lib.Dec.{eqb}
 use Rattle.lists.specs.Tables.{grid}
 use Rattle.registers.specs.declared.Registers.{Registers}
@@ -16,7 +16,3 @@ addedSlot r totals powers n b = cond (inUse r n b) ((slot totals n b + bandPower
 -- 784 totals with 7,168 powers added; lists of other lengths leave the totals
 unfoldable pub addedModulo : Registers → List ℕ → List ℕ → List ℕ
 addedModulo r totals powers = cond (eqb (length totals) 784 && eqb (length powers) 7168) (grid 7 112 (addedSlot r totals powers)) totals
-
--- as many totals, all 0
-unfoldable pub cleared : List ℕ → List ℕ
-cleared totals = replicate (length totals) 0

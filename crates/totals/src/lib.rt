@@ -1,11 +1,11 @@
-// The totals of a period (01, "Periods"): adding a tick's powers, and clearing. A row is one processor's 112 totals or 1,024 powers.
+// The totals of a period (01, "Periods"): adding a tick's powers. A row is one processor's 112 totals or 1,024 powers.
 ghost use mathlib.Core.Path.{_≡_};
 ghost use mathlib.Core.Bool.{cond};
 ghost use Prim.Native.Nat.{_≤_};
 ghost use lib.ListN.{length, getD};
 ghost use Rattle.lists.specs.Sums.{sumTo};
 ghost use Rattle.lists.specs.Tables.{grid};
-ghost use Rattle.totals.specs.Adding.{addedSlot, addedModulo, cleared};
+ghost use Rattle.totals.specs.Adding.{addedSlot, addedModulo};
 ghost use Rattle.totals.specs.Private.{addedRun, addedRow, Run};
 use model::State;
 use registers::Registers;
@@ -91,7 +91,7 @@ fn add_rows(registers: Registers, totals: &mut [u64], powers: &[u32])
         let slot = n * State::BANDS;
         let bin = n * State::BINS;
         add_if_enabled(
-            settings::enabled(registers, n),
+            processors::enabled(registers, n),
             setting,
             &mut totals[slot..slot + State::BANDS],
             &powers[bin..bin + State::BINS],
@@ -105,14 +105,5 @@ pub fn add_spectrum(registers: Registers, totals: &mut [u64], powers: &[u32])
 {
     if (totals.len() == State::TOTALS) & (powers.len() == State::POWERS) {
         add_rows(registers, totals, powers);
-    }
-}
-
-// Sets every total to 0.
-pub fn clear(totals: &mut [u64])
-    ensures { λ _. ⌜ now (totals .exit) ≡ cleared (now (totals .entry)) ⌝ }
-{
-    for i in 0..totals.len() {
-        totals[i] = 0;
     }
 }

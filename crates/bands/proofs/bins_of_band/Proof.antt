@@ -9,7 +9,7 @@ use Rattle.refusal.specs.Outcome.{given}
 use Rattle.bands.specs.declared.BinRange.{BinRange}
 use Rattle.bands.specs.Band.{sizeExponent, widthExponent, bandStart, bandWidth}
 use Rattle.registers.specs.Store.{bandCount}
-use Rattle.bands.specs.Answer.{binRange}
+use Rattle.bands.specs.Private.{binRange}
 use Rattle.bands.proofs.Settings.{Range, range, has-band, has-not-band}
 use Rattle.registers.proofs.Counts.{count-at}
 use Rattle.bands.proofs.bins_of_band.Statement.{statement}

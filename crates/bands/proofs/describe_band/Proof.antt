@@ -10,7 +10,8 @@ use Rattle.bands.specs.declared.BinRange.{BinRange}
 use Rattle.bands.specs.declared.Description.{Description}
 use Rattle.bands.specs.declared.BandDescription.{BandDescription}
 use Rattle.bands.specs.Band.{hasBand}
-use Rattle.bands.specs.Answer.{whole, binRange, bandBinsOutcome, bandDescriptionOutcome, bandDescribed}
+use Rattle.bands.specs.Answer.{whole, bandDescriptionOutcome, bandDescribed}
+use Rattle.bands.specs.Private.{binRange, bandBinsOutcome}
 use Rattle.bands.specs.Exact.{ExactDescription}
 use Rattle.bands.proofs.Settings.{range, known-of}
 use Rattle.bands.proofs.Floats.{exact-description}

@@ -2,7 +2,6 @@
 use Rattle.registers.specs.Access.{isId}
 use mathlib.Core.Bool.{true, false}
 use mathlib.Core.Path.{_≡_, sym, _∙_}
-use Rattle.totals.proofs.Laws.{cleared-784}
 use Rattle.model.specs.Board.{stateSound, commandOutcome}
 use borrow.Author.Tests.{eq-eqb, ne-eqb, not-true, not-false}
 use borrow.Author.Needs.{needs}
@@ -42,7 +41,7 @@ returns-4 c =
     let sound : stateSound (a .state) (a .totals .now) ≡ true = sym (c .before .before .before .before .before .before .before .before .is-sound .ensures) ∙ not-false _ (c .before .before .before .before .before .before .before .if2 .left) in
     let known : isId (a .id) ≡ true = sym (c .before .before .before .before .before .before .is-id .ensures) ∙ not-false _ (c .before .before .before .before .before .if3 .left) in
     let long = c .before .before .before .before .before .before .before .before .before .before .before .before .if1 .left in
-    simp (eq-eqb _ _ long, sound, known, c .accepted-command .ensures, c .before .before .before .clear .ensures, cleared-784 (a .totals .now) long)
+    simp (eq-eqb _ _ long, sound, known, c .accepted-command .ensures, c .before .before .before .clear .ensures)
 
 pub command-spec : {M : Type 1} → statement M
 command-spec =

@@ -11,7 +11,7 @@ use Rattle.model.specs.Report.{meansWithin}
 use Rattle.model.specs.Board.{reportOutcome}
 use Rattle.model.specs.Calls.{Powers}
 use Rattle.model.proofs.Ticks.{never-13}
-use Rattle.totals.proofs.Laws.{cleared-784, length-added}
+use Rattle.totals.proofs.Laws.{length-added}
 use Rattle.report.specs.Written.{Written, reportWritten}
 use Rattle.report.proofs.Laws.{written-plain}
 use Rattle.board.proofs.Ticking.{added-here, added-within}
@@ -46,6 +46,12 @@ returns c =
     ∙ sym (rw sums at (c .before .before .means-fit .ensures))
     ∙ not-true _ (c .before .if1 .taken)))
 
+clear-requires : tie.Need-clear-requires
+clear-requires c κs =
+    let a = c .before .before .before .before .before .before .before .before .before .before .before .before .before .before .before .before .before .args in
+    let t = c .before .before .before .before .before .before .before .before .before .before .before .before .before .before .before .before .before .pre .0 in
+    ap length (c .before .before .before .before .before .before .before .before .before .before .before .add-spectrum .ensures ∙ added-here (a .state) (a .totals .now) (a .powers .now) (a .out .now) t (powers-fit (c .before .before .before .before .before .before .before .before .before .before .before .before .before .before .before))) ∙ length-added _ _ _
+
 returns-2 : tie.Need-returns-2
 unfolding reportOutcome
 returns-2 c =
@@ -61,7 +67,7 @@ returns-2 c =
       means known,
       ap (λ (w : Written). w .words) written,
       ap (λ (w : Written). w .out) written,
-      c .before .before .clear .ensures ∙ cleared-784 _ (ap length sums ∙ length-added _ _ _),
+      c .before .before .clear .ensures,
       p .1 .1,
     )
 
@@ -75,7 +81,7 @@ reporting-tick-spec =
     (λ c. search needs)
     returns
     (λ c κs. search needs)
-    (λ c κs. search needs)
+    clear-requires
     (λ c. search needs)
     (λ c. search needs)
     returns-2)

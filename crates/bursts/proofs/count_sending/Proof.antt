@@ -7,13 +7,13 @@ use native.Mathlib.Omega.{arith}
 use borrow.Author.Needs.{needs}
 use Rattle.lists.specs.Sums.{sumTo}
 use Rattle.lists.proofs.Sums.{sumTo-none, sumTo-more}
-use Rattle.bursts.specs.Slots.{stateOf, isSending, sendingSlots}
+use Rattle.bursts.specs.Slots.{slotStateOf, isSending, sendingSlots}
 use Rattle.bursts.proofs.Arms.{not-sending}
 use Rattle.bursts.proofs.count_sending.Statement.{statement}
 use Rattle.bursts.proofs.count_sending.Tie as tie
 
 abbrev Inv-loop : tie.InvT-loop
-Inv-loop slots sending₀ i₀ sending i = (i ≤ slots .count) × (slots .count ≤ 32) × (sending ≤ i) × (sending ≡ sumTo i (λ j. cond (isSending (stateOf slots j)) 1 0))
+Inv-loop slots sending₀ i₀ sending i = (i ≤ slots .count) × (slots .count ≤ 32) × (sending ≤ i) × (sending ≡ sumTo i (λ j. cond (isSending (slotStateOf slots j)) 1 0))
 
 abbrev μ-loop : tie.MeasureT-loop
 μ-loop slots sending₀ i₀ sending i = slots .count - i
@@ -44,13 +44,13 @@ loop-again c =
     let l = c .before .before .before .loop in
     let s = c .before .before .before .before .args .t1 in
     let one : Bool → ℕ = λ b. cond b 1 0 in
-    let more = sumTo-more (λ j. one (isSending (stateOf s j))) (l .i) in
+    let more = sumTo-more (λ j. one (isSending (slotStateOf s j))) (l .i) in
     ⊎-elim
     (λ w.
-    let e : one (isSending (stateOf s (l .i))) ≡ 1 = ap one (ap isSending (w .1 .given .1)) in
+    let e : one (isSending (slotStateOf s (l .i))) ≡ 1 = ap one (ap isSending (w .1 .given .1)) in
     (omega arith, omega arith, omega (arith, w .2), omega (arith, more, e, w .2)))
     (λ w.
-    let e : one (isSending (stateOf s (l .i))) ≡ 0 = ap one (not-sending (stateOf s (l .i)) (w .0 .keys2)) in
+    let e : one (isSending (slotStateOf s (l .i))) ≡ 0 = ap one (not-sending (slotStateOf s (l .i)) (w .0 .keys2)) in
     (omega arith, omega arith, omega (arith, w .1), omega (arith, more, e, w .1)))
     (c .match .came)
 
@@ -60,7 +60,7 @@ returns c =
     let l = c .before .loop in
     let s = c .before .before .args .t1 in
     let e : l .i ≡ s .count = omega arith in
-    l .inv .3 ∙ ap (λ (n : ℕ). sumTo n (λ j. cond (isSending (stateOf s j)) 1 0)) e
+    l .inv .3 ∙ ap (λ (n : ℕ). sumTo n (λ j. cond (isSending (slotStateOf s j)) 1 0)) e
 
 pub count-sending-spec : {M : Type 1} → statement M
 count-sending-spec =

@@ -4,7 +4,7 @@ use mathlib.Core.Path.{_≡_, sym, ap, _∙_}
 use mathlib.Core.Logic.{⊎-elim}
 use native.Mathlib.Omega.{arith}
 use borrow.Author.Needs.{needs}
-use Rattle.bursts.specs.Slots.{stateOf}
+use Rattle.bursts.specs.Slots.{slotStateOf}
 use Rattle.lists.proofs.Best.{Best, best-none, best-more, best-same}
 use Rattle.bursts.proofs.Arms.{not-held}
 use Rattle.bursts.proofs.Finding.{worth, greatest-found}
@@ -12,7 +12,7 @@ use Rattle.bursts.proofs.greatest_held.Statement.{statement}
 use Rattle.bursts.proofs.greatest_held.Tie as tie
 
 abbrev Inv-loop : tie.InvT-loop
-Inv-loop slots place₀ above₀ i₀ place above i = (i ≤ slots .count) × (slots .count ≤ 32) × (above ≤ 4294967296) × Best (slots .count) (λ j. worth (stateOf slots j)) i place above
+Inv-loop slots place₀ above₀ i₀ place above i = (i ≤ slots .count) × (slots .count ≤ 32) × (above ≤ 4294967296) × Best (slots .count) (λ j. worth (slotStateOf slots j)) i place above
 
 abbrev μ-loop : tie.MeasureT-loop
 μ-loop slots place₀ above₀ i₀ place above i = slots .count - i
@@ -48,7 +48,7 @@ loop-again : tie.Need-loop-again Inv-loop μ-loop
 loop-again c =
     let l = c .before .before .before .loop in
     let s = c .before .before .before .before .args .t1 in
-    let value : ℕ → ℕ = λ j. worth (stateOf s j) in
+    let value : ℕ → ℕ = λ j. worth (slotStateOf s j) in
     ⊎-elim
     (λ w.
     let e : value (l .i) ≡ _ = ap worth (w .1 .given .1) in
@@ -58,7 +58,7 @@ loop-again c =
     let e : value (l .i) ≡ _ = ap worth (w .1 .given .1) in
     (omega arith, omega arith, omega (arith, w .5), best-same (s .count) value (l .i) (l .place) (l .above) (l .inv .3) (w .4) (w .5) (omega (arith, e, w .3 .left))))
     (λ w.
-    (omega arith, omega arith, omega (arith, w .2), best-same (s .count) value (l .i) (l .place) (l .above) (l .inv .3) (w .1) (w .2) (omega (arith, not-held (stateOf s (l .i)) (w .0 .keys2))))))
+    (omega arith, omega arith, omega (arith, w .2), best-same (s .count) value (l .i) (l .place) (l .above) (l .inv .3) (w .1) (w .2) (omega (arith, not-held (slotStateOf s (l .i)) (w .0 .keys2))))))
     (c .match .came)
 
 returns : tie.Need-returns Inv-loop μ-loop

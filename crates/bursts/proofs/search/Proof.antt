@@ -8,7 +8,7 @@ use borrow.Author.Needs.{needs}
 use borrow.Author.Count.{below-more}
 use Rattle.lists.proofs.Sums.{allTo-of, allTo-false}
 use Rattle.lists.proofs.Choices.{cond-true, cond-false}
-use Rattle.bursts.specs.Slots.{stateOf, isFree, noSlot, lookedAt}
+use Rattle.bursts.specs.Slots.{slotStateOf, isFree, noSlot, lookedAt}
 use Rattle.bursts.specs.Searches.{placeFor}
 use Rattle.lists.proofs.Lowest.{lowest-at}
 use Rattle.lists.proofs.Best.{Best, best-none, best-more, best-same}
@@ -17,7 +17,7 @@ use Rattle.bursts.proofs.search.Statement.{statement}
 use Rattle.bursts.proofs.search.Tie as tie
 
 abbrev Inv-loop : tie.InvT-loop
-Inv-loop criterion slots place₀ least₀ looked₀ place least looked = (looked ≤ slots .count) × (slots .count ≤ 32) × (least ≤ criterion) × ((j : ℕ) → j < looked → isFree (stateOf slots j) ≡ false) × Best (slots .count) (λ j. under criterion (stateOf slots j)) looked place (criterion - least)
+Inv-loop criterion slots place₀ least₀ looked₀ place least looked = (looked ≤ slots .count) × (slots .count ≤ 32) × (least ≤ criterion) × ((j : ℕ) → j < looked → isFree (slotStateOf slots j) ≡ false) × Best (slots .count) (λ j. under criterion (slotStateOf slots j)) looked place (criterion - least)
 
 abbrev μ-loop : tie.MeasureT-loop
 μ-loop criterion slots place₀ least₀ looked₀ place least looked = slots .count - looked
@@ -43,8 +43,8 @@ returns c =
     let l = c .before .before .before .before .loop in
     let s = c .before .before .before .before .before .args .t1 in
     let free = ap isFree (c .enum-told .given .1) in
-    let some : noSlot s isFree ≡ false = allTo-false (λ j. not (isFree (stateOf s j))) (s .count) (l .looked) (search needs) (ap not free) in
-    let low = lowest-at (s .count) (λ j. isFree (stateOf s j)) (l .looked) (search needs) free (l .inv .3) in
+    let some : noSlot s isFree ≡ false = allTo-false (λ j. not (isFree (slotStateOf s j))) (s .count) (l .looked) (search needs) (ap not free) in
+    let low = lowest-at (s .count) (λ j. isFree (slotStateOf s j)) (l .looked) (search needs) free (l .inv .3) in
     (sym (cond-false (noSlot s isFree) _ _ some ∙ low), sym (cond-false (noSlot s isFree) _ _ some ∙ ap (λ (n : ℕ). n + 1) low))
 
 enum-known-state : tie.Need-enum-known-state Inv-loop μ-loop
@@ -58,12 +58,12 @@ loop-again c =
     let l = c .before .before .before .before .before .before .loop in
     let s = c .before .before .before .before .before .before .before .args .t1 in
     let x = c .before .before .before .before .before .before .before .args .criterion in
-    let e : under x (stateOf s (l .looked)) ≡ _ = ap (under x) (c .before .before .state .given .1) in (
+    let e : under x (slotStateOf s (l .looked)) ≡ _ = ap (under x) (c .before .before .state .given .1) in (
       omega arith,
       omega arith,
       omega arith,
       below-more _ _ (l .inv .3) (ap isFree (c .before .before .state .given .1)),
-      best-more (s .count) (λ j. under x (stateOf s j)) (l .looked) (l .place) (x - l .least) (l .inv .4) refl (sym e) (omega (arith, e)),
+      best-more (s .count) (λ j. under x (slotStateOf s j)) (l .looked) (l .place) (x - l .least) (l .inv .4) refl (sym e) (omega (arith, e)),
     )
 
 loop-less-2 : tie.Need-loop-less-2 Inv-loop μ-loop
@@ -74,12 +74,12 @@ loop-again-2 c =
     let l = c .before .before .before .before .before .before .loop in
     let s = c .before .before .before .before .before .before .before .args .t1 in
     let x = c .before .before .before .before .before .before .before .args .criterion in
-    let e : under x (stateOf s (l .looked)) ≡ _ = ap (under x) (c .before .before .state .given .1) in (
+    let e : under x (slotStateOf s (l .looked)) ≡ _ = ap (under x) (c .before .before .state .given .1) in (
       omega arith,
       omega arith,
       omega arith,
       below-more _ _ (l .inv .3) (ap isFree (c .before .before .state .given .1)),
-      best-same (s .count) (λ j. under x (stateOf s j)) (l .looked) (l .place) (x - l .least) (l .inv .4) refl refl (omega (arith, e)),
+      best-same (s .count) (λ j. under x (slotStateOf s j)) (l .looked) (l .place) (x - l .least) (l .inv .4) refl refl (omega (arith, e)),
     )
 
 enum-told-2 : tie.Need-enum-told-2 Inv-loop μ-loop
@@ -93,12 +93,12 @@ loop-again-3 c =
     let l = c .before .before .before .before .loop in
     let s = c .before .before .before .before .before .args .t1 in
     let x = c .before .before .before .before .before .args .criterion in
-    let e : under x (stateOf s (l .looked)) ≡ _ = ap (under x) (c .enum-told2 .given .1) in (
+    let e : under x (slotStateOf s (l .looked)) ≡ _ = ap (under x) (c .enum-told2 .given .1) in (
       omega arith,
       omega arith,
       omega arith,
       below-more _ _ (l .inv .3) (ap isFree (c .enum-told2 .given .1)),
-      best-same (s .count) (λ j. under x (stateOf s j)) (l .looked) (l .place) (x - l .least) (l .inv .4) refl refl (omega (arith, e)),
+      best-same (s .count) (λ j. under x (slotStateOf s j)) (l .looked) (l .place) (x - l .least) (l .inv .4) refl refl (omega (arith, e)),
     )
 
 returns-2 : tie.Need-returns-2 Inv-loop μ-loop
@@ -109,7 +109,7 @@ returns-2 c =
     let x = c .before .before .args .criterion in
     let e : l .looked ≡ s .count = omega arith in
     let none : noSlot s isFree ≡ true =
-    allTo-of (s .count) (λ j. not (isFree (stateOf s j))) (λ j h. ap not (l .inv .3 j (omega arith))) in (
+    allTo-of (s .count) (λ j. not (isFree (slotStateOf s j))) (λ j h. ap not (l .inv .3 j (omega arith))) in (
       sym (cond-true (noSlot s isFree) _ _ none ∙ smallest-found s x (l .place) (x - l .least) (rw e at (l .inv .4))),
       e ∙ sym (cond-true (noSlot s isFree) _ _ none),
     )

@@ -6,14 +6,14 @@ use native.Mathlib.Nat.{not-suc-le-zero}
 use native.Mathlib.Omega.{arith}
 use borrow.Author.Needs.{needs}
 use borrow.Author.Count.{below-more}
-use Rattle.bursts.specs.Slots.{stateOf, isSending}
+use Rattle.bursts.specs.Slots.{slotStateOf, isSending}
 use Rattle.lists.proofs.Lowest.{lowest-at, lowest-none}
 use Rattle.bursts.proofs.Arms.{not-sending}
 use Rattle.bursts.proofs.sending_slot.Statement.{statement}
 use Rattle.bursts.proofs.sending_slot.Tie as tie
 
 abbrev Inv-loop : tie.InvT-loop
-Inv-loop slots i₀ i = (i ≤ slots .count) × (slots .count ≤ 32) × ((j : ℕ) → j < i → isSending (stateOf slots j) ≡ false)
+Inv-loop slots i₀ i = (i ≤ slots .count) × (slots .count ≤ 32) × ((j : ℕ) → j < i → isSending (slotStateOf slots j) ≡ false)
 
 abbrev μ-loop : tie.MeasureT-loop
 μ-loop slots i₀ i = slots .count - i
@@ -34,7 +34,7 @@ returns : tie.Need-returns Inv-loop μ-loop
 returns c =
     let l = c .before .before .before .before .loop in
     let s = c .before .before .before .before .before .args .t1 in
-    sym (lowest-at (s .count) (λ j. isSending (stateOf s j)) (l .i) (search needs) (ap isSending (c .enum-told .given .1)) (l .inv .2))
+    sym (lowest-at (s .count) (λ j. isSending (slotStateOf s j)) (l .i) (search needs) (ap isSending (c .enum-told .given .1)) (l .inv .2))
 
 add-i : tie.Need-add-i Inv-loop μ-loop
 add-i c = search needs
@@ -46,14 +46,14 @@ loop-again : tie.Need-loop-again Inv-loop μ-loop
 loop-again c =
     let l = c .before .before .before .loop in
     let s = c .before .before .before .before .args .t1 in
-    (omega arith, omega arith, below-more _ _ (l .inv .2) (not-sending (stateOf s (l .i)) (c .match .keys2)))
+    (omega arith, omega arith, below-more _ _ (l .inv .2) (not-sending (slotStateOf s (l .i)) (c .match .keys2)))
 
 returns-2 : tie.Need-returns-2 Inv-loop μ-loop
 returns-2 c =
     let l = c .before .loop in
     let s = c .before .before .args .t1 in
     let e : l .i ≡ s .count = omega arith in
-    e ∙ sym (lowest-none (s .count) (λ j. isSending (stateOf s j)) (λ j h. l .inv .2 j (omega arith)))
+    e ∙ sym (lowest-none (s .count) (λ j. isSending (slotStateOf s j)) (λ j h. l .inv .2 j (omega arith)))
 
 pub sending-slot-spec : {M : Type 1} → statement M
 sending-slot-spec =

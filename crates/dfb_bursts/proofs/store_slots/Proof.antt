@@ -6,14 +6,14 @@ use native.Mathlib.Omega.{arith}
 use lib.ListN.{length, length-set}
 use Rattle.lists.specs.Tables.{tabulate, overwrite}
 use Rattle.lists.proofs.Overwriting.{table-none, table-more}
-use Rattle.bursts.specs.Slots.{stateOf}
+use Rattle.bursts.specs.Slots.{slotStateOf}
 use Rattle.dfb_bursts.specs.Bursts.{statusOf, criterionOf}
 use Rattle.dfb_bursts.proofs.Bursts.{stored}
 use Rattle.dfb_bursts.proofs.store_slots.Statement.{statement}
 use Rattle.dfb_bursts.proofs.store_slots.Tie as tie
 
 abbrev Inv-loop : tie.InvT-loop
-Inv-loop status₀ criteria₀ slots i₀ status criteria i = (i ≤ length status₀) × (length status₀ ≤ 32) × (length status₀ ≡ length criteria₀) × (length status ≡ length status₀) × (length criteria ≡ length criteria₀) × (status ≡ overwrite (tabulate i (λ j. statusOf (stateOf slots j))) status₀) × (criteria ≡ overwrite (tabulate i (λ j. criterionOf (stateOf slots j))) criteria₀)
+Inv-loop status₀ criteria₀ slots i₀ status criteria i = (i ≤ length status₀) × (length status₀ ≤ 32) × (length status₀ ≡ length criteria₀) × (length status ≡ length status₀) × (length criteria ≡ length criteria₀) × (status ≡ overwrite (tabulate i (λ j. statusOf (slotStateOf slots j))) status₀) × (criteria ≡ overwrite (tabulate i (λ j. criterionOf (slotStateOf slots j))) criteria₀)
 
 abbrev μ-loop : tie.MeasureT-loop
 μ-loop status₀ criteria₀ slots i₀ status criteria i = length status₀ - i

@@ -4,7 +4,7 @@ use Prim.Native.Nat.{ℕ}
 use mathlib.Core.List.{List}
 use native.Mathlib.Omega.{arith}
 use Rattle.bursts.specs.declared.Answer.{Answer}
-use Rattle.bursts.specs.Slots.{answerOutcome}
+use Rattle.bursts.specs.Slots.{slotOutcome}
 use Rattle.refusal.specs.Number.{numberOf}
 use Rattle.refusal.specs.Outcome.{refused}
 use Rattle.numbers.specs.Numbers.{above16}
@@ -24,7 +24,7 @@ store-slots-requires c κs = search needs
 cast-result : tie.Need-cast-result
 cast-result c =
     let a = c .before .before .before .before .before .before .before .before .before .before .before .before .args in
-    let e = ap (λ (w : Answer). doneCall (a .status .now) (a .criteria .now) (answerOutcome w) (a .done .slots) .answer) (c .before .before .before .before .before .before .before .before .answer .given .1) in
+    let e = ap (λ (w : Answer). doneCall (a .status .now) (a .criteria .now) (slotOutcome w) (a .done .slots) .answer) (c .before .before .before .before .before .before .before .before .answer .given .1) in
     omega (arith, e)
 
 enum-known-answer-2 : tie.Need-enum-known-answer-2
@@ -45,14 +45,14 @@ returns c =
     let st = c .before .before .before .before .store-slots .ensures in
     let told = c .before .before .before .before .before .before .before .before .answer .given in
     written-lists (told .0 .0) (a .status .now) _ _ (a .done .slots) (st .0) (st .1)
-    ∙ ap (λ (w : Answer). doneCall (a .status .now) (a .criteria .now) (answerOutcome w) (a .done .slots)) (sym (told .1))
+    ∙ ap (λ (w : Answer). doneCall (a .status .now) (a .criteria .now) (slotOutcome w) (a .done .slots)) (sym (told .1))
 
 returns-2 : tie.Need-returns-2
 returns-2 c =
     let a = c .before .before .before .before .before .before .args in
     let refusal = c .before .before .answer2 .given .0 .0 in
     ap (λ (n : ℕ). unchanged n (a .status .now) (a .criteria .now)) (refused-number above16 refusal {o = refused (numberOf refusal)} (c .above-16 .ensures) refl)
-    ∙ ap (λ (w : Answer). doneCall (a .status .now) (a .criteria .now) (answerOutcome w) (a .done .slots)) (sym (c .before .before .answer2 .given .1))
+    ∙ ap (λ (w : Answer). doneCall (a .status .now) (a .criteria .now) (slotOutcome w) (a .done .slots)) (sym (c .before .before .answer2 .given .1))
 
 pub write-done-spec : {M : Type 1} → statement M
 write-done-spec =

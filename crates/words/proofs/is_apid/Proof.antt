@@ -1,6 +1,7 @@
 -- `words::is_apid` meets its contract: the tests pick the case of `isApid`. Assumes nothing.
 use mathlib.Core.Path.{_≡_, sym, ap, _∙_}
 use mathlib.Core.Bool.{true, false}
+use native.Mathlib.Omega.{arith}
 use borrow.Author.Tests.{eq-eqb, ne-eqb}
 use borrow.Author.Needs.{needs}
 use Rattle.refusal.specs.Outcome.{isGiven, writtenOutcome}
@@ -9,7 +10,7 @@ use Rattle.words.proofs.is_apid.Statement.{statement}
 use Rattle.words.proofs.is_apid.Tie as tie
 
 returns : tie.Need-returns
-returns c = simp (eq-eqb _ _ (c .if1 .taken))
+returns c = simp (eq-eqb (c .before .args .apid) 0x4E (omega arith))
 
 returns-2 : tie.Need-returns-2
 returns-2 c =
