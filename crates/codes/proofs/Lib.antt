@@ -1,2 +1,3 @@
 pub mod LeastExponent
 pub mod Laws
+pub mod LegalWords

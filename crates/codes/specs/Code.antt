@@ -1,5 +1,6 @@
 -- 01, "The two codes": one rule over the mantissa width w, and the band code and the sum code as that rule at w = 3 and at w = 10.
 use mathlib.Core.Bool.{Bool, true, false, _&&_, _||_}
+use mathlib.Core.List.{List, [], _∷_}
 use Prim.Native.Nat.{ℕ, zero, suc, _+_, _*_, _/_, _%_, _^_}
 use lib.Dec.{leb, ltb, eqb}
 
@@ -36,6 +37,15 @@ bandValue c = valueOf 3 c
 -- Legal codes: e = 0, or e from 1 to 29 with m ≥ 4.
 unfoldable pub bandLegal : ℕ → Bool
 bandLegal c = eqb (c / 8) 0 || (leb (c / 8) 29 && leb 4 (c % 8))
+
+-- ---- words of two band codes: both bytes of a SPEC word's 16 bits are legal, and so are those of each word of a list
+
+abbrev pub legalWord : ℕ → Bool
+legalWord bits = bandLegal (bits / 256) && bandLegal (bits % 256)
+
+unfoldable pub legalWords : List ℕ → Bool
+legalWords [] = true
+legalWords (bits ∷ words) = legalWord bits && legalWords words
 
 -- ---- the sum code: a 10-bit mantissa, for 64-bit values
 

@@ -4,7 +4,7 @@ use mathlib.Core.Bool.{not}
 use mathlib.Core.List.{List, _++_}
 use Prim.Native.Nat.{ℕ, _+_, _*_, _^_, _≤_, _<_}
 use native.Mathlib.Omega.{arith}
-use borrow.Author.Tests.{leb-true, ltb-false}
+use borrow.Author.Tests.{leb-true, ltb-false, not-false}
 use lib.Dec.{leb, ltb}
 use lib.IntN.{ℤ}
 use lib.ListN.{length, take, drop}
@@ -36,9 +36,9 @@ module _ (log : List ℕ) (used : ℕ) (long : length log < 2 ^ 63) where
   append-checked : (o : Outcome Record) → Under (appendChecked log used o)
   append-checked (refused n) = refused-below above63 n
   append-checked (given r) =
-      cond-at Under (leb (usedWith used r) (length log))
-      (λ e. given-below above63 (usedWith used r) (omega (arith, leb-true (usedWith used r) (length log) e)))
+      cond-at Under (not (leb (usedWith used r) (length log)))
       (λ e. refused-below above63 2)
+      (λ e. given-below above63 (usedWith used r) (omega (arith, leb-true (usedWith used r) (length log) (not-false _ e))))
 
   append-outcome : (r : Record) → Under (appendOutcome log used r)
   unfolding appendOutcome

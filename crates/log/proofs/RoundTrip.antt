@@ -1,10 +1,10 @@
--- Over every list of append calls, refused ones among them: a log begun empty reads back, over its bytes used, as the records that were
--- accepted, in order, and then the end.
+-- The claim `RoundTrip`: a log begun empty and written by append alone reads back. Assumes nothing.
 use Prim.Native.Nat.{ℕ, _+_, _≤_}
 use mathlib.Core.Path.{_≡_, refl, ap, sym, subst, _∙_}
+use mathlib.Core.Bool.{not}
 use mathlib.Core.List.{List, [], _∷_, _++_, append-assoc, append-nil}
 use native.Mathlib.Omega.{arith}
-use borrow.Author.Tests.{leb-true}
+use borrow.Author.Tests.{leb-true, not-false}
 use lib.Dec.{leb}
 use lib.ListN.{length, take, drop, length-append}
 use lib.Seq.{length-take-le, take-at}
@@ -12,7 +12,8 @@ use Rattle.lists.proofs.Choices.{cond-at}
 use Rattle.refusal.specs.Outcome.{Outcome, given, refused, Filled}
 use Rattle.log.specs.Format.{recordLength, encode, checked}
 use Rattle.log.specs.Append.{usedWith, appendChecked, appendOutcome}
-use Rattle.log.specs.History.{Log, begun, usedBytes, usedAfter, acceptedBy, afterCall, afterCalls, accepted, ReadsAs, end, next}
+use Rattle.log.specs.History.{Log, begun, usedAfter, acceptedBy, afterCall, afterCalls, accepted, ReadsAs, end, next}
+use Rattle.log.specs.Claims.{RoundTrip}
 use Rattle.log.specs.declared.Record.{Record}
 use Rattle.log.proofs.Encoding.{encode-long, check-gives, read-encoded, read-end}
 
@@ -54,8 +55,8 @@ one-call l rs r h = by-check (checked r) refl
 
     written : checked r ≡ given r → left (appendChecked (l .buffer) (l .used) (given r))
     written k =
-        cond-at left (leb (usedWith (l .used) r) (length (l .buffer))) (λ f.
-        let fits : usedWith (l .used) r ≤ length (l .buffer) = leb-true _ _ f in
+        cond-at left (not (leb (usedWith (l .used) r) (length (l .buffer)))) (λ f. same) (λ f.
+        let fits : usedWith (l .used) r ≤ length (l .buffer) = leb-true _ _ (not-false _ f) in
         let front : length (take (l .used) (l .buffer) ++ encode r) ≡ usedWith (l .used) r = simp (length-append, length-take-le (l .used) (l .buffer) (h .within), encode-long r) in
         record {
           bytes = take-at (take (l .used) (l .buffer) ++ encode r) (drop (usedWith (l .used) r) (l .buffer)) (usedWith (l .used) r) front
@@ -63,7 +64,6 @@ one-call l rs r h = by-check (checked r) refl
           within = simp length-append (omega (arith, simp length-append at front));
           known = known-snoc rs r (h .known) k;
         })
-        (λ f. same)
 
     by-check : (q : Outcome Record) → checked r ≡ q → left (appendChecked (l .buffer) (l .used) q)
     by-check (given d) e = subst (λ (x : Record). left (appendChecked (l .buffer) (l .used) (given x))) (check-gives r d e) (written (e ∙ ap given (sym (check-gives r d e))))
@@ -87,8 +87,7 @@ reads pre (r ∷ rs) k =
     rw (← at, ← append-assoc) (reads (pre ++ encode r) rs (k .1)) in
     next (read-encoded pre (encodeAll rs) r (k .0)) rest
 
--- a log begun empty and written by append alone reads back, over its bytes used, as the records accepted and then the end
-pub round-trip : (buffer : List ℕ) (calls : List Record) → ReadsAs (usedBytes (afterCalls (begun buffer) calls)) 0 (accepted (begun buffer) calls)
+pub round-trip : RoundTrip
 unfolding encodeAll
 round-trip buffer calls =
     let h : Holds (afterCalls (begun buffer) calls) (accepted (begun buffer) calls) =

@@ -9,6 +9,7 @@ ghost use Rattle.words.specs.Words.{wordBytes};
 ghost use Rattle.sets.specs.Sets.{packedBytes, packSized, packOutcome, everyApid, samplesOf, unpackSized, unpackOutcome};
 use refusal::Refusal;
 use refusal::Written;
+use words::SetWords;
 
 // Writes one word at a place.
 fn put_word(out: &mut [u8], at: usize, apid: u8, bits: u16)
@@ -52,8 +53,8 @@ pub fn pack(apid: u8, samples: &[i16], out: &mut [u8]) -> Written
     ensures { λ r. ⌜ filled r (now (out .exit)) ≡ packOutcome apid (now (samples .entry)) (now (out .entry)) ⌝ }
 {
     match words::set_words(apid) {
-        Written::Count(words) => pack_set(apid, words, samples, out),
-        Written::Refused(refusal) => Written::Refused(refusal),
+        SetWords::Count(words) => pack_set(apid, words, samples, out),
+        SetWords::Refused(refusal) => Written::Refused(refusal),
     }
 }
 
@@ -107,7 +108,7 @@ pub fn unpack(apid: u8, bytes: &[u8], samples: &mut [i16]) -> Written
     ensures { λ r. ⌜ filled r (now (samples .exit)) ≡ unpackOutcome apid (now (bytes .entry)) (now (samples .entry)) ⌝ }
 {
     match words::set_words(apid) {
-        Written::Count(words) => unpack_set(apid, words, bytes, samples),
-        Written::Refused(refusal) => Written::Refused(refusal),
+        SetWords::Count(words) => unpack_set(apid, words, bytes, samples),
+        SetWords::Refused(refusal) => Written::Refused(refusal),
     }
 }

@@ -1,10 +1,8 @@
 // Board words (01, "Words and sets"): an APID and 16 bits; samples; and the words of a set.
 ghost use mathlib.Core.Path.{_≡_};
-ghost use Rattle.refusal.specs.Outcome.{writtenOutcome};
 ghost use Rattle.words.specs.Sample.{bitsOf, sampleOf};
-ghost use Rattle.words.specs.Words.{setSize, isApid, pairOf};
+ghost use Rattle.words.specs.Words.{setWordsOutcome, setSize, isApid, pairOf};
 use refusal::Refusal;
-use refusal::Written;
 
 // The 16 bits of a sample.
 pub fn bits_of(sample: i16) -> u16
@@ -28,18 +26,24 @@ pub fn sample_of(bits: u16) -> i16
     }
 }
 
+// The number of words of a set, or the refusal.
+pub enum SetWords {
+    Count(usize),
+    Refused(Refusal),
+}
+
 // The words of a set, by its waveform APID. Refused by 4.
-pub fn set_words(apid: u8) -> Written
-    ensures { λ r. ⌜ writtenOutcome r ≡ setSize apid ⌝ }
+pub fn set_words(apid: u8) -> SetWords
+    ensures { λ r. ⌜ setWordsOutcome r ≡ setSize apid ⌝ }
 {
     match apid {
-        0x43 => Written::Count(3),
-        0x44 => Written::Count(7),
-        0x45 => Written::Count(3),
-        0x46 => Written::Count(3),
-        0x47 => Written::Count(6),
-        0x48 => Written::Count(3),
-        _ => Written::Refused(Refusal::UnknownApid),
+        0x43 => SetWords::Count(3),
+        0x44 => SetWords::Count(7),
+        0x45 => SetWords::Count(3),
+        0x46 => SetWords::Count(3),
+        0x47 => SetWords::Count(6),
+        0x48 => SetWords::Count(3),
+        _ => SetWords::Refused(Refusal::UnknownApid),
     }
 }
 
@@ -54,8 +58,8 @@ pub fn is_apid(apid: u8) -> bool
         return true;
     }
     match set_words(apid) {
-        Written::Count(_) => true,
-        Written::Refused(_) => false,
+        SetWords::Count(_) => true,
+        SetWords::Refused(_) => false,
     }
 }
 

@@ -1,7 +1,7 @@
 -- `sets::unpack` meets its contract: the set's size picks the case of `unpackSized`. Assumes nothing.
 use mathlib.Core.Path.{sym, ap, _∙_}
 use borrow.Author.Needs.{needs}
-use Rattle.refusal.specs.Outcome.{writtenOutcome}
+use Rattle.words.specs.Words.{setWordsOutcome}
 use Rattle.sets.specs.Sets.{unpackSized, unpackOutcome}
 use Rattle.words.proofs.Laws.{size-range}
 use Rattle.sets.proofs.unpack.Statement.{statement}
@@ -9,20 +9,20 @@ use Rattle.sets.proofs.unpack.Tie as tie
 
 unpack-set-requires : tie.Need-unpack-set-requires
 unpack-set-requires c κs =
-    size-range _ _ (sym (c .before .before .before .before .set-words .ensures) ∙ ap writtenOutcome (c .before .before .words .given .1)) .1
+    size-range _ _ (sym (c .before .before .before .before .set-words .ensures) ∙ ap setWordsOutcome (c .before .before .words .given .1)) .1
 
 returns : tie.Need-returns
 unfolding unpackOutcome
 returns c =
     let a = c .before .before .before .before .before .before .before .before .args in
-    let size = sym (ap writtenOutcome (c .before .before .before .before .words .given .1)) ∙ c .before .before .before .before .before .before .set-words .ensures in
+    let size = sym (ap setWordsOutcome (c .before .before .before .before .words .given .1)) ∙ c .before .before .before .before .before .before .set-words .ensures in
     c .before .unpack-set .ensures ∙ ap (unpackSized (a .apid) (a .bytes .now) (a .samples .now)) size
 
 returns-2 : tie.Need-returns-2
 unfolding unpackOutcome
 returns-2 c =
     let a = c .before .before .before .before .before .args in
-    ap (unpackSized (a .apid) (a .bytes .now) (a .samples .now)) (sym (ap writtenOutcome (c .before .refusal .given .1)) ∙ c .before .before .before .set-words .ensures)
+    ap (unpackSized (a .apid) (a .bytes .now) (a .samples .now)) (sym (ap setWordsOutcome (c .before .refusal .given .1)) ∙ c .before .before .before .set-words .ensures)
 
 pub unpack-spec : {M : Type 1} → statement M
 unpack-spec =
