@@ -34,7 +34,7 @@ def tick(answer, total):
 
 def first_word(apid, code, value):
     """The first word of a report of processor 1 has band 0 in the lower byte and band 1, which is 0, in the upper."""
-    return f"word {apid << 16 | code}", f"value {value}"
+    return f"word {apid:02X}00{code:02X}", f"value {value}"
 
 
 def board():
@@ -58,7 +58,7 @@ def band_codes():
 def cadences():
     for choice in range(11):
         ticks = 2**choice
-        yield f"cadence {choice} " + (f"rate {4 * 8 // ticks}" if ticks <= 8 else f"period {4 * ticks // 8}")
+        yield f"cadence {choice} " + (f"rate {8 // ticks}" if ticks <= 8 else f"period {ticks // 8}")
     yield "cadence 11 refused 12"
 
 

@@ -1,6 +1,6 @@
 -- The bins of each band, once over s: which bins are in a band, that the bands follow one another, and where they end. Assumes nothing.
 use mathlib.Core.Path.{_≡_, sym, ap, _∙_, subst}
-use mathlib.Core.Logic.{_⊎_, inl, inr, _↔_}
+use mathlib.Core.Logic.{_⊎_, inl, inr}
 use Prim.Native.Nat.{ℕ, suc, _+_, _-_, _*_, _/_, _^_, _≤_, _<_, zero-le}
 use native.Mathlib.Nat.{lt-irrefl, le-refl, le-suc, lt-of-not-le, le-trans, le-of-eq, eq-or-lt-of-le, mul-zero, suc-mul, mul-suc, mul-comm, add-mul, mul-le-mul-left, add-sub-cancel-left, sub-le, div-lt-iff-lt-mul, div-eq-of-lt-le, div-mul-le-self, mul-div-le, lt-mul-div-succ, lt-div-mul-add, pow-suc}
 use native.Mathlib.Decide.{decLt, le-ind}
@@ -9,6 +9,7 @@ use lib.Pow.{pow-pos, pow-lt, pow-add}
 use Rattle.codes.specs.Code.{exponent}
 use Rattle.codes.proofs.LeastExponent.{Least, exponent-least, least-full, full-least}
 use Rattle.bands.specs.Band.{bandOf, widthExponent, bandStart, bandWidth}
+use Rattle.bands.specs.Claims.{InBand, BinsOfBand}
 use Rattle.bands.proofs.Rule.{band-at, band-exponent}
 
 -- ---- a band b is S · e + m in one way, with m below 2 · S, and at least S unless e is 0
@@ -60,11 +61,6 @@ parts s b =
 
 -- ---- a bin is in a band exactly where the rule says so
 
--- bin k is one of the bins of band b
-pub record InBand (s k b : ℕ) : Type 0 where
-  pub from : bandStart s b ≤ k
-  pub before : k < bandStart s b + bandWidth s b
-
 pub in-its-band : (s k : ℕ) → InBand s k (bandOf s k)
 in-its-band s k =
     let e : ℕ = exponent (suc s) k in
@@ -87,7 +83,7 @@ band-of-bin s k b i =
     in
     band-at s k e least ∙ ap (λ (x : ℕ). 2 ^ s * e + x) is ∙ split s b
 
-pub in-band : (s k b : ℕ) → (bandOf s k ≡ b) ↔ InBand s k b
+pub in-band : BinsOfBand
 in-band s k b = (λ p. subst (λ (x : ℕ). InBand s k x) p (in-its-band s k), band-of-bin s k b)
 
 -- ---- the bands follow one another from bin 0 on

@@ -12,8 +12,8 @@ use lib.Pow.{pow-pos, pow-mono, pow-add, shr-lt, shr-shr}
 use borrow.Author.Tests.{lt-ltb, le-ltb, le-leb, lt-leb}
 use Rattle.codes.specs.Code.{exponent}
 use Rattle.codes.proofs.LeastExponent.{below-pow, Least, le-over, over-le, least-lt, least-full, full-least, exponent-least}
-use Rattle.bands.specs.Band.{greatestTo, octave, bandOf}
-use Rattle.bands.specs.Private.{coarser}
+use Rattle.bands.specs.Band.{greatestTo, octave, bandOf, coarser}
+use Rattle.bands.specs.Claims.{OctaveGreatest, BandCoarser}
 
 -- `greatestTo` finds the number that passes the test where none above it does
 greatestTo-at : (test : ℕ → Bool) (n r : ℕ) → r ≤ n → (0 < r → test r ≡ true) → ((j : ℕ) → r < j → test j ≡ false) → greatestTo test n ≡ r
@@ -51,8 +51,7 @@ octave-bounds k pos =
 pub octave-exponent : (k : ℕ) → 0 < k → octave k ≡ exponent 1 k
 octave-exponent k pos = octave-is k (exponent 1 k) (octave-bounds k pos .0) (octave-bounds k pos .1)
 
--- 01's h: 2 ^ h is the greatest power of two not above k
-pub octave-greatest : (k : ℕ) → 0 < k → (2 ^ octave k ≤ k) × ((j : ℕ) → 2 ^ j ≤ k → j ≤ octave k)
+pub octave-greatest : OctaveGreatest
 octave-greatest k pos =
     let e : ℕ = exponent 1 k in
     let bounds = octave-bounds k pos in
@@ -93,8 +92,7 @@ band-small s k h =
     band-at s k 0 (record { fitting = lt-of-le-of-lt (div-le-self k 1) h; before = λ j l. absurd (not-suc-le-zero l) })
     ∙ omega (arith, mul-zero (2 ^ s), div-one k)
 
--- Where there are half as many bands to the octave, two neighbouring bands from 2 · S on make one.
-pub band-coarser : (s k : ℕ) → bandOf s k ≡ coarser (2 ^ s) (bandOf (suc s) k)
+pub band-coarser : BandCoarser
 unfolding coarser
 band-coarser s k = go (decLt k (2 ^ suc s))
   where

@@ -1,17 +1,18 @@
 -- The bins of the bands of the three bin settings. Assumes nothing.
 use mathlib.Core.Path.{_≡_, refl, sym}
-use mathlib.Core.Bool.{true, false, cond, and-false}
+use mathlib.Core.Bool.{true, false, and-false}
 use Prim.Native.Nat.{ℕ, suc, _+_, _*_, _^_, _≤_, _<_}
 use native.Mathlib.Nat.{lt-of-not-le, mul-comm}
 use native.Mathlib.Omega.{arith}
-use lib.Dec.{leb, ltb, lit≤}
+use lib.Dec.{leb, ltb}
 use lib.Pow.{pow-mono}
 use borrow.Author.Tests.{ltb-true, lt-ltb, le-ltb, le-leb}
-use Rattle.lists.proofs.Choices.{both, cond-at}
+use Rattle.lists.proofs.Choices.{both}
 use Rattle.registers.specs.Store.{bandCount}
 use Rattle.registers.proofs.Counts.{three, setting-le}
 use Rattle.bands.specs.Band.{sizeExponent, bandOf, widthExponent, bandStart, bandWidth, hasBand}
-use Rattle.bands.proofs.Bins.{InBand, split, in-its-band, in-band, first-start, next-start, start-mono, band-below}
+use Rattle.bands.specs.Claims.{Partitioned}
+use Rattle.bands.proofs.Bins.{split, in-its-band, in-band, first-start, next-start, start-mono, band-below}
 
 -- the bands end with bin 1023
 pub bands-end : (setting : ℕ) → setting ≤ 2 → bandStart (sizeExponent setting) (bandCount setting) ≡ 1024
@@ -53,27 +54,9 @@ has-not-band setting b h = rw (le-ltb b (bandCount setting) h) (and-false (leb s
 pub known-of : (setting b : ℕ) → hasBand setting b ≡ true → b < bandCount setting
 known-of setting b h = ltb-true b (bandCount setting) (both (leb setting 2) (ltb b (bandCount setting)) h .1)
 
--- the width of a band, and 0 for a band past the count: at most 1,024
-pub width-le : (setting b : ℕ) → cond (ltb b (bandCount setting)) (bandWidth (sizeExponent setting) b) 0 ≤ 1024
-width-le setting b =
-    cond-at (λ (x : ℕ). x ≤ 1024) (ltb b (bandCount setting))
-    (λ e. let w = range setting b (ltb-true b (bandCount setting) e) .within in omega arith) (λ e. lit≤ tt)
+-- ---- each bin is in exactly one band
 
--- ---- the bands of a setting: each bin is in exactly one of them, and they follow one another from bin 0 to bin 1023 without a gap
-
--- b is the one band of bin k
-pub record OneBand (setting k b : ℕ) : Type 0 where
-  pub known : b < bandCount setting
-  pub inside : InBand (sizeExponent setting) k b
-  pub only : (b′ : ℕ) → InBand (sizeExponent setting) k b′ → b′ ≡ b
-
-pub record Partition (setting : ℕ) : Type 0 where
-  pub first : bandStart (sizeExponent setting) 0 ≡ 0
-  pub next : (b : ℕ) → bandStart (sizeExponent setting) (suc b) ≡ bandStart (sizeExponent setting) b + bandWidth (sizeExponent setting) b
-  pub end : bandStart (sizeExponent setting) (bandCount setting) ≡ 1024
-  pub one : (k : ℕ) → k < 1024 → OneBand setting k (bandOf (sizeExponent setting) k)
-
-pub partition : (setting : ℕ) → setting ≤ 2 → Partition setting
+pub partition : Partitioned
 partition setting h =
     let s : ℕ = sizeExponent setting in
     record {

@@ -1,16 +1,11 @@
--- Serves the contracts of private functions only: the step from one bin setting to the one below it, and the bins of a band.
+-- Serves the contracts of private functions only: the bins of a band.
 use mathlib.Core.Bool.{cond}
-use Prim.Native.Nat.{ℕ, _+_, _*_, _/_}
-use lib.Dec.{ltb}
+use Prim.Native.Nat.{ℕ}
 use Rattle.refusal.specs.Number.{numberOf}
 use Rattle.refusal.specs.Outcome.{Outcome, given, refused}
 use Rattle.bands.specs.declared.BinRange.{BinRange}
 use Rattle.bands.specs.declared.BandBins.{BandBins}
 use Rattle.bands.specs.Band.{sizeExponent, bandStart, bandWidth, hasBand}
-
--- the band at S that holds band b of the setting with twice as many bands to the octave
-unfoldable pub coarser : ℕ → ℕ → ℕ
-coarser size b = cond (ltb b (2 * size)) b (b / 2 + size)
 
 abbrev pub bandBinsOutcome : BandBins → Outcome BinRange
 bandBinsOutcome (BandBins.Bins r) = given r

@@ -1,14 +1,18 @@
 // FFT bins and bands (01, "Bands"): the band of a bin, the description of a band in hertz, and the cadence of reports.
 ghost use mathlib.Core.Path.{_≡_};
 ghost use Prim.Native.Nat.{_<_, _≤_, _-_};
-ghost use Rattle.bands.specs.Band.{bandOf};
-ghost use Rattle.bands.specs.Private.{coarser, bandBinsOutcome, bandBins};
+ghost use Rattle.bands.specs.Band.{bandOf, coarser};
+ghost use Rattle.bands.specs.Private.{bandBinsOutcome, bandBins};
 ghost use Rattle.bands.specs.Answer.{bandIndexOutcome, bandFound, bandDescriptionOutcome, bandDescribed, cadenceOutcome, cadenceOf};
 ghost use Rattle.bands.specs.Exact.{ExactDescription, ExactCadence};
 use refusal::Refusal;
+use registers::Registers;
 use table::FINE_BANDS;
 
 mod table;
+
+// The number of FFT bins.
+pub const BINS: u16 = 1024;
 
 // The band of an FFT bin, or refusal 12.
 pub enum BandIndex {
@@ -73,10 +77,10 @@ fn coarser_band(band: u8, size: u8) -> u8
 pub fn band_of(setting: u8, bin: u16) -> BandIndex
     ensures { λ r. ⌜ bandIndexOutcome r ≡ bandFound setting bin ⌝ }
 {
-    if 2 < setting {
+    if Registers::BINS_LIMIT < setting as u16 {
         return BandIndex::Refused(Refusal::OutOfRange);
     }
-    if 1023 < bin {
+    if BINS <= bin {
         return BandIndex::Refused(Refusal::OutOfRange);
     }
     let fine = fine_band(bin);
@@ -101,7 +105,7 @@ fn width_exponent(octave: u8) -> u8
 fn bins_of_band(setting: u8, band: u8) -> BandBins
     ensures { λ r. ⌜ bandBinsOutcome r ≡ bandBins setting band ⌝ }
 {
-    if 2 < setting {
+    if Registers::BINS_LIMIT < setting as u16 {
         return BandBins::Refused(Refusal::OutOfRange);
     }
     let i = setting as usize;
@@ -139,7 +143,7 @@ pub fn describe_band(setting: u8, band: u8) -> BandDescription
 pub fn cadence_of(choice: u8) -> Cadence
     ensures { λ r. ⌜ (cadenceOutcome r ≡ cadenceOf choice) × ExactCadence choice r ⌝ }
 {
-    if 10 < choice {
+    if Registers::NCAD_LIMIT < choice as u16 {
         return Cadence::Refused(Refusal::OutOfRange);
     }
     let ticks = 1u16 << choice;

@@ -1,4 +1,4 @@
-// The band of each FFT bin, 0 to 1023, at 112 bands (01, "Bands"). proofs/FineBands.antt and proofs/fine_band have its test and its rule.
+// The band of each FFT bin, 0 to 1023, at 112 bands (01, "Bands"). specs/Claims.antt has its test and its rule; proofs/fine_band, that it passes.
 pub const FINE_BANDS: [u8; 1024] = [
     0,
     1,

@@ -64,15 +64,28 @@ fn tick_with(state: State, totals: &mut [u64], power: u32, out: &mut [u8]) -> St
     ticked.state
 }
 
-// The three bytes of a word as one number.
-fn word(apid: u8, upper: u8, lower: u8) -> u64 {
-    apid as u64 * 65536 + upper as u64 * 256 + lower as u64
+// A hexadecimal digit, in capitals; 0 for a number over 15.
+fn digit(n: u8) -> u8 {
+    match n {
+        0..=9 => b'0' + n,
+        10..=15 => b'A' - 10 + n,
+        _ => b'0',
+    }
+}
+
+fn hex(byte: u8) {
+    let digits = [digit(byte / 16), digit(byte % 16)];
+    io::write_all(1, &digits);
 }
 
 // The first word of an output, and what the code of band 0 in it stands for.
 fn show_first_word(out: &[u8]) {
     if 3 <= out.len() {
-        line(b"word ", word(out[0], out[1], out[2]));
+        io::write_all(1, b"word ");
+        hex(out[0]);
+        hex(out[1]);
+        hex(out[2]);
+        io::write_all(1, b"\n");
         line(b"value ", value_of(out[2]));
     }
 }

@@ -1,7 +1,7 @@
 -- What 02's ticket 9 claims of whole lists of calls, from any sound state. Assumes nothing.
 use Prim.Native.Nat.{ℕ, _+_, _≤_, _<_, min}
 use mathlib.Core.Path.{_≡_, refl, sym, ap, _∙_}
-use mathlib.Core.Bool.{Bool, true, false, cond, not, true≢false}
+use mathlib.Core.Bool.{true, false, cond, not, true≢false}
 use mathlib.Core.List.{List, [], _∷_}
 use native.Mathlib.Omega.{arith}
 use borrow.Author.Tests.{le-leb, leb-true, le-ltb, ltb-true, ltb-false, not-true}
@@ -12,11 +12,12 @@ use Rattle.lists.proofs.Choices.{by-cases}
 use Rattle.bursts.specs.declared.Slots.{Slots}
 use Rattle.bursts.specs.declared.SlotState.{SlotState}
 use Rattle.bursts.specs.declared.SlotState.the-variants.{Free, Held, Sending}
-use Rattle.bursts.specs.Slots.{slotStateOf, isFree, isSending, heldBelow, smallestHeld, noSlot, sendingSlots, sound, changed}
-use Rattle.bursts.specs.Calls.{Call, offer, choose, finish, perform, afterCalls, offers, NoFinish, Sound, heldFrom, heldAtLeast, offeredAtLeast, Proved}
+use Rattle.bursts.specs.Slots.{slotStateOf, isFree, isSending, heldBelow, smallestHeld, noSlot, sendingSlots, changed}
+use Rattle.bursts.specs.Calls.{Call, offer, choose, finish, perform, afterCalls, offers, NoFinish}
+use Rattle.bursts.specs.Claims.{Sound, heldFrom, heldAtLeast, offeredAtLeast, Proved}
 use Rattle.bursts.proofs.Rules.{sound-few}
 use Rattle.bursts.proofs.Cases.{offer-cases}
-use Rattle.bursts.proofs.Totals.{passing, passing-changed, passing-le, passing-all, passing-none}
+use Rattle.bursts.proofs.Totals.{passing-changed, passing-le, passing-all, passing-none}
 use Rattle.bursts.proofs.Kept as kept
 
 -- ---- lists of calls
@@ -138,7 +139,7 @@ turned-away-stays s ok x f g =
 
 -- ---- all of it
 
-pub proved : (s : Slots) → Sound s → Proved s
+pub proved : Proved
 proved s ok =
     record {
       stays-sound = λ cs. all-sound cs s ok;

@@ -1,6 +1,6 @@
 -- What the two searches of the slots find: the held slot with the smallest criterion below an offer's, and the one with the greatest. Assumes nothing.
-use Prim.Native.Nat.{ℕ, zero, suc, _+_, _-_, _≤_, _<_}
-use mathlib.Core.Path.{_≡_, refl, sym, ap, _∙_, subst}
+use Prim.Native.Nat.{ℕ, _+_, _-_, _≤_, _<_}
+use mathlib.Core.Path.{_≡_, refl, sym, ap, _∙_}
 use mathlib.Core.Bool.{Bool, true, false, cond, not, true≢false}
 use native.Mathlib.Omega.{arith}
 use borrow.Author.Tests.{lt-ltb, le-ltb, ltb-true, ltb-false}
@@ -10,7 +10,6 @@ use Rattle.lists.proofs.Choices.{by-cases, cond-true, cond-false}
 use Rattle.bursts.specs.declared.Slots.{Slots}
 use Rattle.bursts.specs.declared.SlotState.{SlotState}
 use Rattle.bursts.specs.declared.SlotState.the-variants.{Free, Held, Sending}
-use Rattle.lists.specs.Lowest.{lowest}
 use Rattle.bursts.specs.Slots.{slotStateOf, isHeld, heldBelow, heldAbove, lowestSlot, noSlot, smallestHeld, greatestHeld}
 use Rattle.lists.proofs.Lowest.{lowest-at, lowest-none}
 use Rattle.lists.proofs.Best.{Best, best}

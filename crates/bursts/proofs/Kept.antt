@@ -12,7 +12,8 @@ use Rattle.bursts.specs.declared.Slots.{Slots}
 use Rattle.bursts.specs.declared.SlotState.{SlotState}
 use Rattle.bursts.specs.declared.SlotState.the-variants.{Free, Held, Sending}
 use Rattle.bursts.specs.Slots.{slotStateOf, isFree, isSending, smallestHeld, noSlot, sendingSlots, sound, changed, becomes, finishOutcome}
-use Rattle.bursts.specs.Calls.{Call, offer, choose, finish, perform, Sound}
+use Rattle.bursts.specs.Calls.{Call, offer, choose, finish, perform}
+use Rattle.bursts.specs.Claims.{Sound}
 use Rattle.lists.proofs.Lowest.{lowest-at}
 use Rattle.bursts.proofs.Rules.{sound-few}
 use Rattle.bursts.proofs.Cases.{offer-cases, choose-cases, finish-cases}

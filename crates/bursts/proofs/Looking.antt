@@ -1,5 +1,5 @@
 -- 02's claim of ticket 10: what an offer answers depends on the slots that it looks at alone. Assumes nothing.
-use Prim.Native.Nat.{ℕ, zero, suc, _+_, _≤_, _<_}
+use Prim.Native.Nat.{ℕ, _+_, _<_}
 use mathlib.Core.Path.{_≡_, refl, sym, ap, ap₂, _∙_, subst}
 use mathlib.Core.Bool.{Bool, true, false, cond, not}
 use native.Mathlib.Omega.{arith}
@@ -9,10 +9,9 @@ use Rattle.lists.proofs.Choices.{by-cases, cond-true, cond-false}
 use Rattle.bursts.specs.declared.Slots.{Slots}
 use Rattle.bursts.specs.declared.SlotState.{SlotState}
 use Rattle.bursts.specs.declared.SlotState.the-variants.{Free, Held, Sending}
-use Rattle.lists.specs.Lowest.{lowest}
-use Rattle.bursts.specs.Slots.{slotStateOf, isFree, heldBelow, lowestSlot, noSlot, smallestHeld, sound, lookedAt, OfferAnswered, takes, refusedAfter, offerOutcome}
+use Rattle.bursts.specs.Slots.{slotStateOf, isFree, heldBelow, lowestSlot, noSlot, smallestHeld, sound, lookedAt, takes, refusedAfter, offerOutcome}
 use Rattle.bursts.specs.Searches.{placeFor}
-use Rattle.bursts.specs.Looked.{AgreeBelow, SameAnswer}
+use Rattle.bursts.specs.Claims.{AgreeBelow, SameAnswer}
 use Rattle.lists.proofs.Lowest.{lowest-at, lowest-ext, lowest-before, lowest-test, none-passes}
 use Rattle.bursts.proofs.Cases.{some-passes}
 use Rattle.bursts.proofs.Rules.{offer-by-place}

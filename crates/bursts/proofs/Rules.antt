@@ -1,14 +1,14 @@
 -- The rules of the three calls by the slot that a search finds, or the number of slots. Assumes nothing.
-use Prim.Native.Nat.{ℕ, _≤_, _<_}
+use Prim.Native.Nat.{ℕ, _≤_}
 use mathlib.Core.Path.{_≡_, refl, sym, ap, _∙_}
 use mathlib.Core.Bool.{Bool, true, false, cond, not}
 use native.Mathlib.Omega.{arith}
-use borrow.Author.Tests.{leb-true, lt-ltb, le-ltb, not-true, not-false}
+use borrow.Author.Tests.{leb-true, lt-ltb, le-ltb, not-false}
 use lib.Dec.{ltb}
-use Rattle.lists.proofs.Choices.{by-cases, both, cond-true, cond-false}
+use Rattle.lists.proofs.Choices.{by-cases, both}
 use Rattle.bursts.specs.declared.Slots.{Slots}
-use Rattle.bursts.specs.declared.SlotState.the-variants.{Free, Held, Sending}
-use Rattle.bursts.specs.Slots.{slotStateOf, isFree, isHeld, isSending, heldBelow, lowestSlot, noSlot, smallestHeld, greatestHeld, sound, SlotsOutcome, refusedBy, becomes, lookedAt, OfferOutcome, refusedAfter, refusedAlone, taken, offerOutcome, chooseOutcome, finishOutcome}
+use Rattle.bursts.specs.declared.SlotState.the-variants.{Free, Sending}
+use Rattle.bursts.specs.Slots.{slotStateOf, isFree, isHeld, isSending, heldBelow, lowestSlot, noSlot, greatestHeld, sound, SlotsOutcome, refusedBy, becomes, lookedAt, OfferOutcome, refusedAfter, refusedAlone, taken, offerOutcome, chooseOutcome, finishOutcome}
 use Rattle.bursts.specs.Searches.{placeFor}
 use Rattle.lists.proofs.Lowest.{none-passes}
 use Rattle.bursts.proofs.Finding.{smallest-some, greatest-none}

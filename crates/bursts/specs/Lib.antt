@@ -1,4 +1,4 @@
 pub mod Slots
 pub mod Searches
 pub mod Calls
-pub mod Looked
+pub mod Claims

@@ -1,8 +1,8 @@
 -- The laws of the two codes that callers cite, each proved once over the mantissa width of suc t bits. Assumes nothing.
 use mathlib.Core.Path.{_≡_, refl, sym, ap, _∙_, subst}
-use mathlib.Core.Bool.{Bool, true, false, cond, _&&_, _||_, or-true, false≢true}
+use mathlib.Core.Bool.{Bool, true, false, _&&_, _||_, or-true, false≢true}
 use mathlib.Core.Logic.{_⊎_, inl, inr}
-use Prim.Native.Nat.{ℕ, zero, suc, _+_, _-_, _*_, _/_, _%_, _^_, _≤_, _<_, zero-le}
+use Prim.Native.Nat.{ℕ, suc, _+_, _-_, _*_, _/_, _%_, _^_, _≤_, _<_, zero-le}
 use native.Mathlib.Nat.{zero-lt-suc, le-add-right, le-trans, le-of-eq, not-suc-le-zero, lt-of-not-le, not-le-of-lt, lt-of-le-of-lt, lt-of-lt-of-le, eq-or-lt-of-le, mul-one, suc-mul, mul-comm, mul-left-comm, mul-add, mul-div-cancel, mul-le-mul-left, mul-le-mul-right, mul-lt-mul-of-pos-left, mod-lt, lt-mul-div-succ, div-le-self, div-one, div-add-mod, mul-div-le, div-mul-le-self, pow-suc}
 use native.Mathlib.Decide.{decLt}
 use native.Mathlib.Numerals.{add-one-le}
@@ -13,8 +13,8 @@ use borrow.Author.Tests.{lt-ltb, le-leb, leb-true, eqb-true}
 use Rattle.refusal.specs.Outcome.{given}
 use Rattle.refusal.proofs.Outcomes.{given-of}
 use Rattle.codes.specs.Code.{exponent, codeOf, valueOf, bandCode, bandValue, bandLegal, sumCode, sumValue}
-use Rattle.codes.specs.Expanded.{bandExpanded, sumExpanded}
-use Rattle.codes.specs.Bounds.{MeanBounds}
+use Rattle.codes.specs.Expanded.{bandExpanded}
+use Rattle.codes.specs.Claims.{BandMeanBounds, BandMonotone, BandCodesLegal, BandCodesExpanded, LegalCodesReturn, LegalCodes, SumCodeBounds, SumCodesExpanded}
 use Rattle.codes.proofs.LeastExponent.{Least, least-lt, least-full, full-least, over-le, exponent-unique, exponent-le, exponent-least}
 
 -- ---- a code taken apart
@@ -157,11 +157,11 @@ code-of-value t c highest =
 
 -- ---- the band code
 
-pub band-mean : (d total : ℕ) → 0 < d → MeanBounds d total (bandValue (bandCode (total / d)))
+pub band-mean : BandMeanBounds
 unfolding bandCode bandValue coded
 band-mean d total pos = let s = coded-mean 2 d total pos in record { below = s .below; small = s .small; large = s .large }
 
-pub band-mono : (v v′ : ℕ) → v ≤ v′ → bandValue (bandCode v) ≤ bandValue (bandCode v′)
+pub band-mono : BandMonotone
 unfolding bandCode bandValue coded
 band-mono v v′ h = coded-mono 2 v v′ h
 
@@ -188,8 +188,7 @@ legal-of c h = go (eqb (c / 8) 0) refl (leb (c / 8) 29) refl (leb 4 (c % 8)) ref
     go false p true q false r h = absurd (false≢true h)
     go false p false q z r h = absurd (false≢true h)
 
--- a legal code is the code of what it stands for
-pub band-code-of-value : (c : ℕ) → bandLegal c ≡ true → bandCode (bandValue c) ≡ c
+pub band-code-of-value : LegalCodesReturn
 unfolding bandCode bandValue
 band-code-of-value c h = code-of-value 2 c (legal-of c h .highest)
 
@@ -204,38 +203,27 @@ expanded-lt c v is =
     let g = given-of (bandLegal c) (bandValue c) v 7 is in
     subst (λ (x : ℕ). x < 2 ^ 32) (sym (g .1)) (band-value-lt c (g .0))
 
--- how many of the codes below n are legal: 124 of the 256
-abbrev pub legalBelow : ℕ → ℕ
-legalBelow zero = 0
-legalBelow (suc n) = legalBelow n + cond (bandLegal n) 1 0
-
-pub legal-codes : legalBelow 256 ≡ 124
+pub legal-codes : LegalCodes
 unfolding bandLegal
 legal-codes = refl
 
-pub band-legal : (v : ℕ) → v < 2 ^ 32 → bandLegal (bandCode v) ≡ true
+pub band-legal : BandCodesLegal
 unfolding bandCode
 band-legal v h =
     legal-if (codeOf 3 v)
     (omega (arith, code-exponent 2 v, exponent-le 3 32 v h))
     (λ p. omega (arith, code-mantissa 2 v, full 2 v (omega (arith, code-exponent 2 v))))
 
--- expanding the code of v gives the value that the laws above speak of
-pub band-expanded : (v : ℕ) → v < 2 ^ 32 → bandExpanded (bandCode v) ≡ given (bandValue (bandCode v))
+pub band-expanded : BandCodesExpanded
 band-expanded v h = rw (band-legal v h)
 
 -- ---- the sum code
 
-pub record SumBounds (v value : ℕ) : Type 0 where
-  pub below : value ≤ v
-  pub small : v < 1024 → value ≡ v
-  pub large : 1024 ≤ v → 513 * (v - value) < v
-
-pub sum-bounds : (v : ℕ) → SumBounds v (sumValue (sumCode v))
+pub sum-bounds : SumCodeBounds
 unfolding sumCode sumValue coded
 sum-bounds v =
     let s = subst (λ (x : ℕ). Shortfall 9 1 v (coded 10 x)) (div-one v) (coded-mean 9 1 v (zero-lt-suc 0)) in
     record { below = coded-le 9 v; small = coded-small 9 v; large = λ h. omega (arith, s .large (coded-big 9 v (omega arith))) }
 
-pub sum-expanded : (v : ℕ) → v < 2 ^ 64 → sumExpanded (sumCode v) ≡ given (sumValue (sumCode v))
+pub sum-expanded : SumCodesExpanded
 sum-expanded v h = rw (lt-ltb _ _ (lt-of-le-of-lt (sum-bounds v .below) h))

@@ -8,8 +8,9 @@ use native.Mathlib.Nat.{le-trans, le-of-eq, le-of-suc-le-suc, lt-of-not-le, not-
 use native.Mathlib.Omega.{arith}
 use lib.Pow.{pow-pos, pow-mono, pow-add, shr-lt}
 use lib.Count.{leadingZeros, leading-length}
-use borrow.Author.Tests.{lt-ltb, le-ltb}
+use borrow.Author.Tests.{lt-ltb, le-ltb, ltb-true}
 use Rattle.codes.specs.Code.{leastFrom, fits, exponent, codeOf}
+use Rattle.codes.specs.Claims.{LeastExponent}
 
 -- `leastFrom` finds the number that passes the test where none below it does
 pub leastFrom-at : (test : ℕ → Bool) (d e r : ℕ) → e ≤ r → r ≤ e + d → test r ≡ true → ((j : ℕ) → j < r → test j ≡ false) → leastFrom test d e ≡ r
@@ -70,10 +71,11 @@ exponent-leading w k v h = exponent-unique w v (k - leadingZeros k v - w) (leadi
 pub exponent-least : (w v : ℕ) → Least w v (exponent w v)
 exponent-least w v = subst (λ (e : ℕ). Least w v e) (sym (exponent-leading w v v (below-pow v))) (leading-least w v v (below-pow v))
 
--- no smaller exponent serves
-pub exponent-minimal : (w v j : ℕ) → v / 2 ^ j < 2 ^ w → exponent w v ≤ j
-exponent-minimal w v j h =
-    le-of-suc-le-suc (lt-of-not-le (λ g. not-le-of-lt h (exponent-least w v .before j g)))
+pub least-exponent : LeastExponent
+least-exponent w v = (
+  lt-ltb _ _ (exponent-least w v .fitting),
+  λ e f. le-of-suc-le-suc (lt-of-not-le (λ g. not-le-of-lt (ltb-true _ _ f) (exponent-least w v .before e g))),
+)
 
 -- a value below 2 ^ k has an exponent of at most k - w
 pub exponent-le : (w k v : ℕ) → v < 2 ^ k → exponent w v ≤ k - w

@@ -1,2 +1,3 @@
--- The C interface of bands and codes: what is written to a list.
+-- The C interface of bands and codes: what is written to a list, and how answers are told apart.
 pub mod Values
+pub mod Claims

@@ -4,7 +4,7 @@ ghost use mathlib.Core.Path.{_≡_};
 ghost use Rattle.codes.specs.Code.{bandCode, sumCode};
 ghost use Rattle.codes.specs.Expanded.{bandExpanded};
 ghost use Rattle.bands.specs.Answer.{bandFound};
-ghost use Rattle.numbers.specs.Numbers.{above8, above16, above63, outcomeNumber, FilledNumber, filledNumber};
+ghost use Rattle.dfb_refusals.specs.Numbers.{above8, above16, above63, outcomeNumber, FilledNumber, filledNumber};
 ghost use Rattle.dfb_bands.specs.Values.{sumWritten, bandWritten};
 use bands::BandDescription;
 use bands::BandIndex;
@@ -31,14 +31,14 @@ pub extern "C" fn dfb_describe_band(setting: u8, band: u8, three: &mut [f32]) ->
     match bands::describe_band(setting, band) {
         BandDescription::Described(description) => {
             if three.len() < 3 {
-                return numbers::above_16(Refusal::WrongLength);
+                return dfb_refusals::above_16(Refusal::WrongLength);
             }
             three[0] = description.low;
             three[1] = description.centre;
             three[2] = description.width;
             0
         }
-        BandDescription::Refused(refusal) => numbers::above_16(refusal),
+        BandDescription::Refused(refusal) => dfb_refusals::above_16(refusal),
     }
 }
 
@@ -57,7 +57,7 @@ pub extern "C" fn dfb_expand_band(code: u8) -> u64
 {
     match codes::expand_band(code) {
         BandValue::Value(value) => value,
-        BandValue::Refused(refusal) => numbers::above_63(refusal),
+        BandValue::Refused(refusal) => dfb_refusals::above_63(refusal),
     }
 }
 
@@ -77,11 +77,11 @@ pub extern "C" fn dfb_expand_sum(code: u16, value: &mut [u64]) -> u32
     match codes::expand_sum(code) {
         SumValue::Value(v) => {
             if value.len() < 1 {
-                return numbers::above_16(Refusal::WrongLength);
+                return dfb_refusals::above_16(Refusal::WrongLength);
             }
             value[0] = v;
             0
         }
-        SumValue::Refused(refusal) => numbers::above_16(refusal),
+        SumValue::Refused(refusal) => dfb_refusals::above_16(refusal),
     }
 }

@@ -24,12 +24,12 @@ use Rattle.model.specs.Totals.{added, slot}
 use Rattle.model.specs.Report.{meansWithin}
 use Rattle.model.specs.Board.{stateSound, CommandOutcome, commandOutcome, TickOutcome, reportOutcome, runningOutcome, lengthsFit, tickOutcome}
 use Rattle.refusal.specs.Outcome.{Outcome, isGiven}
-use Rattle.numbers.specs.Numbers.{above16, outcomeNumber, Below, ToldApart}
-use Rattle.numbers.proofs.Apart.{given-below, refused-below, told-apart}
+use Rattle.dfb_refusals.specs.Numbers.{above16, outcomeNumber, ToldApart}
+use Rattle.dfb_refusals.proofs.Apart.{Below, given-below, refused-below, told-apart}
 use Rattle.dfb_board.specs.State.{stateOf}
 use Rattle.dfb_board.specs.Calls.{replyNumber, CommandCall, commandLeft, commandCall, TickCall, tickLeft, tickCall, readCall}
-use Rattle.dfb_board.specs.Apart.{isRefused, isReported}
-use Rattle.dfb_board.specs.Apart as apart
+use Rattle.dfb_board.specs.Claims.{isRefused, isReported, CommandCallApart, TickCallApart, ReadCallApart}
+use Rattle.dfb_board.specs.Claims as apart
 
 abbrev RepliesApart : Reply ℕ → Type 0
 RepliesApart r = apart.ReplyToldApart (replyNumber r) (isRefused r) (isReported r)
@@ -97,37 +97,33 @@ tick-apart s totals powers out =
     (λ _. cond-at Ticks (not (runningOf (s .registers))) (λ _. record { refused = refl; reported = refl })
     (λ _. running-outcome s totals (added (s .registers) totals powers) out)))
 
--- the calls: a state of another length than 8 is a refusal too
-module _ (state : List ℕ) where
-  pub read-call-apart : (id : ℕ) → ltb (readCall state id) above16 ≡ (eqb (length state) 8 && isGiven (registerRead (stateOf state .registers) id))
-  unfolding readCall
-  read-call-apart id = by (eqb (length state) 8)
-    where
-      by : (t : Bool) → ltb (cond (not t) (above16 + 2) (outcomeNumber above16 (registerRead (stateOf state .registers) id))) above16 ≡ (t && isGiven (registerRead (stateOf state .registers) id))
-      by true = read-apart (stateOf state .registers) id
-      by false = refl
+-- ---- the calls
 
-  module _ (totals : List ℕ) where
-    command-cases : (t : Bool) (o : CommandOutcome) → RepliesApart (o .answer) →
-        apart.ReplyToldApart (cond (not t) (record { answer = above16 + 2; state = state; totals = totals }) (commandLeft o) .answer) (not t || isRefused (o .answer)) (t && isReported (o .answer))
-    command-cases true o a = a
-    command-cases false o a = record { refused = refl; reported = refl }
+pub read-call-apart : ReadCallApart
+unfolding readCall
+read-call-apart state id = by (eqb (length state) 8)
+  where
+    by : (t : Bool) → ltb (cond (not t) (above16 + 2) (outcomeNumber above16 (registerRead (stateOf state .registers) id))) above16 ≡ (t && isGiven (registerRead (stateOf state .registers) id))
+    by true = read-apart (stateOf state .registers) id
+    by false = refl
 
-    pub command-call-apart : (id v : ℕ) →
-        apart.ReplyToldApart (commandCall state totals id v .answer)
-        (not (eqb (length state) 8) || isRefused (commandOutcome (stateOf state) totals id v .answer))
-        (eqb (length state) 8 && isReported (commandOutcome (stateOf state) totals id v .answer))
-    unfolding commandCall
-    command-call-apart id v = command-cases (eqb (length state) 8) (commandOutcome (stateOf state) totals id v) (command-apart (stateOf state) totals id v)
+module _ (state totals : List ℕ) where
+  command-cases : (t : Bool) (o : CommandOutcome) → RepliesApart (o .answer) →
+      apart.ReplyToldApart (cond (not t) (record { answer = above16 + 2; state = state; totals = totals }) (commandLeft o) .answer) (not t || isRefused (o .answer)) (t && isReported (o .answer))
+  command-cases true o a = a
+  command-cases false o a = record { refused = refl; reported = refl }
 
-    tick-cases : (out : List ℕ) (t : Bool) (o : TickOutcome) → RepliesApart (o .answer) →
-        apart.ReplyToldApart (cond (not t) (record { answer = above16 + 2; state = state; totals = totals; out = out }) (tickLeft o) .answer) (not t || isRefused (o .answer)) (t && isReported (o .answer))
-    tick-cases out true o a = a
-    tick-cases out false o a = record { refused = refl; reported = refl }
+  tick-cases : (out : List ℕ) (t : Bool) (o : TickOutcome) → RepliesApart (o .answer) →
+      apart.ReplyToldApart (cond (not t) (record { answer = above16 + 2; state = state; totals = totals; out = out }) (tickLeft o) .answer) (not t || isRefused (o .answer)) (t && isReported (o .answer))
+  tick-cases out true o a = a
+  tick-cases out false o a = record { refused = refl; reported = refl }
 
-    pub tick-call-apart : (powers out : List ℕ) →
-        apart.ReplyToldApart (tickCall state totals powers out .answer)
-        (not (eqb (length state) 8) || isRefused (tickOutcome (stateOf state) totals powers out .answer))
-        (eqb (length state) 8 && isReported (tickOutcome (stateOf state) totals powers out .answer))
-    unfolding tickCall
-    tick-call-apart powers out = tick-cases out (eqb (length state) 8) (tickOutcome (stateOf state) totals powers out) (tick-apart (stateOf state) totals powers out)
+pub command-call-apart : CommandCallApart
+unfolding commandCall
+command-call-apart state totals id v =
+    command-cases state totals (eqb (length state) 8) (commandOutcome (stateOf state) totals id v) (command-apart (stateOf state) totals id v)
+
+pub tick-call-apart : TickCallApart
+unfolding tickCall
+tick-call-apart state totals powers out =
+    tick-cases state totals out (eqb (length state) 8) (tickOutcome (stateOf state) totals powers out) (tick-apart (stateOf state) totals powers out)

@@ -7,7 +7,7 @@ use lib.ListN.{length}
 use Rattle.registers.specs.declared.Answer.{Answer}
 use Rattle.registers.specs.Access.{answerOutcome, registerRead}
 use Rattle.model.specs.Board.{commandReply, CommandOutcome, commandOutcome, TickOutcome, tickOutcome}
-use Rattle.numbers.specs.Numbers.{above16, outcomeNumber}
+use Rattle.dfb_refusals.specs.Numbers.{above16, outcomeNumber}
 use Rattle.dfb_board.specs.State.{stateOf, stateWords}
 use Rattle.dfb_board.specs.Calls.{replyNumber, CommandCall, commandLeft, commandCall, TickCall, tickLeft, tickCall, readCall}
 

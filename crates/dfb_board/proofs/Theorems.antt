@@ -14,7 +14,7 @@ use Rattle.model.specs.Reply.{Reply, refused, stores, idle, collected, waiting,
 use Rattle.model.specs.Totals.{added, slot}
 use Rattle.model.specs.Report.{meansWithin}
 use Rattle.model.specs.Board.{stateSound, CommandOutcome, commandRefused, commandAccepted, commandOutcome, TickOutcome, withoutReport, atNextPhase, tickReported, reportOutcome, runningOutcome, lengthsFit, tickOutcome}
-use Rattle.numbers.specs.Numbers.{above16}
+use Rattle.dfb_refusals.specs.Numbers.{above16}
 use Rattle.dfb_board.specs.State.{stateOf}
 use Rattle.dfb_board.specs.Calls.{CommandCall, commandLeft, commandCall, TickCall, tickLeft, tickCall}
 use Rattle.dfb_board.proofs.State.{state-words}

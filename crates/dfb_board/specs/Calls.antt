@@ -9,7 +9,7 @@ use Rattle.registers.specs.Access.{registerRead}
 use Rattle.model.specs.Reply.{Reply}
 use Rattle.model.specs.Reply as reply
 use Rattle.model.specs.Board.{CommandOutcome, commandOutcome, TickOutcome, tickOutcome}
-use Rattle.numbers.specs.Numbers.{above16, outcomeNumber}
+use Rattle.dfb_refusals.specs.Numbers.{above16, outcomeNumber}
 use Rattle.dfb_board.specs.State.{stateOf, stateWords}
 
 -- a command's answer is the value stored; a tick's 0 for idle, 1 for collected, 2 for waiting, and 0x20000 + words for a report

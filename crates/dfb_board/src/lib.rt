@@ -4,7 +4,7 @@ ghost use mathlib.Core.Path.{_≡_};
 ghost use lib.ListN.{length};
 ghost use Rattle.registers.specs.Access.{answerOutcome};
 ghost use Rattle.model.specs.Board.{tickReply};
-ghost use Rattle.numbers.specs.Numbers.{above16, outcomeNumber};
+ghost use Rattle.dfb_refusals.specs.Numbers.{above16, outcomeNumber};
 ghost use Rattle.dfb_board.specs.State.{stateOf, stateWords};
 ghost use Rattle.dfb_board.specs.Calls.{replyNumber, CommandCall, commandCall, readCall, TickCall, tickCall};
 use model::State;
@@ -22,7 +22,7 @@ fn answer_16(answer: Answer) -> u32
 {
     match answer {
         Answer::Value(value) => value as u32,
-        Answer::Refused(refusal) => numbers::above_16(refusal),
+        Answer::Refused(refusal) => dfb_refusals::above_16(refusal),
     }
 }
 
@@ -35,7 +35,7 @@ fn tick_number(answer: TickAnswer) -> u32
         TickAnswer::Collected => 1,
         TickAnswer::Waiting => 2,
         TickAnswer::Reported(words) => 0x20000 + words as u32,
-        TickAnswer::Refused(refusal) => numbers::above_16(refusal),
+        TickAnswer::Refused(refusal) => dfb_refusals::above_16(refusal),
     }
 }
 
@@ -86,7 +86,7 @@ pub extern "C" fn dfb_command(
     ensures { λ r. ⌜ record { answer = r; state = now (state .exit); totals = now (totals .exit) } ≡ commandCall (now (state .entry)) (now (totals .entry)) id information ⌝ }
 {
     if state.len() != STATE {
-        return numbers::above_16(Refusal::WrongLength);
+        return dfb_refusals::above_16(Refusal::WrongLength);
     }
     let done = board::command(load(state), totals, id, information);
     let next = done.state;
@@ -101,7 +101,7 @@ pub extern "C" fn dfb_read(state: &[u16], id: u8) -> u32
     ensures { λ r. ⌜ r ≡ readCall (now (state .entry)) id ⌝ }
 {
     if state.len() != STATE {
-        return numbers::above_16(Refusal::WrongLength);
+        return dfb_refusals::above_16(Refusal::WrongLength);
     }
     answer_16(load(state).read(id))
 }
@@ -117,7 +117,7 @@ pub extern "C" fn dfb_tick(
     ensures { λ r. ⌜ record { answer = r; state = now (state .exit); totals = now (totals .exit); out = now (out .exit) } ≡ tickCall (now (state .entry)) (now (totals .entry)) (now (powers .entry)) (now (out .entry)) ⌝ }
 {
     if state.len() != STATE {
-        return numbers::above_16(Refusal::WrongLength);
+        return dfb_refusals::above_16(Refusal::WrongLength);
     }
     let done = board::tick(load(state), totals, powers, out);
     let next = done.state;

@@ -1,5 +1,5 @@
 -- The slots of two lists, and the bounds of the answers. Assumes nothing.
-use Prim.Native.Nat.{ℕ, zero, suc, _+_, _*_, _^_, _≤_, _<_}
+use Prim.Native.Nat.{ℕ, zero, suc, _+_, _^_, _≤_, _<_}
 use mathlib.Core.Path.{_≡_, refl, sym, ap, _∙_, subst}
 use mathlib.Core.Bool.{Bool, true, false, cond, not}
 use mathlib.Core.List.{List, [], _∷_}
@@ -20,9 +20,9 @@ use Rattle.refusal.specs.Outcome.{given, refused}
 use Rattle.bursts.specs.Slots.{slotStateOf, isFree, isSending, greatestHeld, lowestSlot, noSlot, sound, lookedAt, SlotsOutcome, takes, refusedAfter, OfferOutcome, offerOutcome, chooseOutcome, finishOutcome}
 use Rattle.bursts.specs.Searches.{placeFor}
 use Rattle.bursts.proofs.Rules.{sound-few, offer-by-place, choose-by-place, finish-by-place}
-use Rattle.numbers.specs.Numbers.{above16, Below}
-use Rattle.numbers.proofs.Apart.{given-below, refused-below}
-use Rattle.dfb_bursts.specs.Apart.{OfferApart}
+use Rattle.dfb_refusals.specs.Numbers.{above16}
+use Rattle.dfb_refusals.proofs.Apart.{Below, given-below, refused-below}
+use Rattle.dfb_bursts.specs.Claims.{OfferParts}
 use Rattle.dfb_bursts.specs.Bursts.{areSlots, listsRefused, slotFrom, slotsOf, statuses, criteriaOf, BurstCall, unchanged, written, onSlots, doneCall, offerCall}
 
 module _ (status : List ℕ) where
@@ -107,7 +107,7 @@ module _ (status criteria : List ℕ) where
 
   pub record SmallOffer (o : OfferOutcome) : Type 0 where
     pub fits : offerCall status criteria (o .answer) (o .slots) .answer < 2 ^ 32
-    pub apart : OfferApart (offerCall status criteria (o .answer) (o .slots) .answer) (o .answer)
+    pub apart : OfferParts (offerCall status criteria (o .answer) (o .slots) .answer) (o .answer)
 
   done-refused : (n : ℕ) (s : Slots) → n ≤ 29 → SmallDone (record { answer = refused n; slots = s })
   done-refused n s h = record { fits = omega arith; below = refused-below above16 n }

@@ -1,5 +1,5 @@
 -- The answers of offer, choose and finish are told apart from refusals. Assumes nothing.
-use mathlib.Core.Path.{_≡_, refl, sym, ap, _∙_}
+use mathlib.Core.Path.{_≡_, refl, ap, _∙_}
 use mathlib.Core.Bool.{Bool, true, false, cond, not, _&&_}
 use mathlib.Core.List.{List}
 use Prim.Native.Nat.{ℕ, _+_, _-_, _≤_}
@@ -10,10 +10,10 @@ use lib.ListN.{length}
 use Rattle.refusal.specs.Outcome.{Outcome, given, refused, isGiven}
 use Rattle.bursts.specs.declared.Slots.{Slots}
 use Rattle.bursts.specs.Slots.{SlotsOutcome, refusedAlone, OfferOutcome, chooseOutcome, finishOutcome, offerOutcome}
-use Rattle.numbers.specs.Numbers.{above16, outcomeNumber, Below}
-use Rattle.numbers.proofs.Apart.{told-apart}
+use Rattle.dfb_refusals.specs.Numbers.{above16, outcomeNumber}
+use Rattle.dfb_refusals.proofs.Apart.{Below, told-apart}
 use Rattle.dfb_bursts.specs.Bursts.{areSlots, listsRefused, slotsOf, unchanged, doneCall, offerCall, burstOffer, burstChoose, burstFinish}
-use Rattle.dfb_bursts.specs.Apart.{OfferApart, offerAnswered}
+use Rattle.dfb_bursts.specs.Claims.{ChooseApart, FinishApart, OfferParts, OfferApart}
 use Rattle.dfb_bursts.proofs.Bursts.{SmallOffer, choose-small, finish-small, offer-small}
 
 module _ (status criteria : List ℕ) where
@@ -33,22 +33,13 @@ module _ (status criteria : List ℕ) where
       le-ltb (listsRefused status criteria) above16
       (refused-over (not (eqb (length status) (length criteria))) (not (areSlots status)) (eqb-false (listsRefused status criteria) 0 e))
 
-  -- a slot is answered exactly where the lists are slots and the call is accepted
-  pub choose-apart : ltb (burstChoose status criteria .answer) above16 ≡ (eqb (listsRefused status criteria) 0 && isGiven (chooseOutcome (slotsOf status criteria) .answer))
-  unfolding burstChoose
-  choose-apart = by-lists _ refl (chooseOutcome (slotsOf status criteria)) (choose-small status criteria (slotsOf status criteria) .below)
-
-  pub finish-apart : ltb (burstFinish status criteria .answer) above16 ≡ (eqb (listsRefused status criteria) 0 && isGiven (finishOutcome (slotsOf status criteria) .answer))
-  unfolding burstFinish
-  finish-apart = by-lists _ refl (finishOutcome (slotsOf status criteria)) (finish-small status criteria (slotsOf status criteria) .below)
-
   refused-most : (p q : Bool) → cond p (above16 + 2) (cond q (above16 + 3) 0) ≤ above16 + 3
   refused-most true q = omega arith
   refused-most false true = omega arith
   refused-most false false = omega arith
 
   by-offer : (t : Bool) → eqb (listsRefused status criteria) 0 ≡ t → (o : OfferOutcome) → SmallOffer status criteria o →
-      OfferApart (cond t (offerCall status criteria (o .answer) (o .slots)) (unchanged (listsRefused status criteria) status criteria) .answer) (cond t (o .answer) (refusedAlone (listsRefused status criteria - above16)))
+      OfferParts (cond t (offerCall status criteria (o .answer) (o .slots)) (unchanged (listsRefused status criteria) status criteria) .answer) (cond t (o .answer) (refusedAlone (listsRefused status criteria - above16)))
   by-offer true e o small = small .apart
   by-offer false e o small =
       let p = not (eqb (length status) (length criteria)) in
@@ -61,6 +52,17 @@ module _ (status criteria : List ℕ) where
         taken = le-ltb (above16 + (listsRefused status criteria - above16)) above16 (omega arith);
       }
 
-  pub offer-apart : (x : ℕ) → OfferApart (burstOffer status criteria x .answer) (offerAnswered status criteria x)
-  unfolding burstOffer
-  offer-apart x = by-offer _ refl (offerOutcome (slotsOf status criteria) x) (offer-small status criteria (slotsOf status criteria) x)
+pub choose-apart : ChooseApart
+unfolding burstChoose
+choose-apart status criteria =
+    by-lists status criteria _ refl (chooseOutcome (slotsOf status criteria)) (choose-small status criteria (slotsOf status criteria) .below)
+
+pub finish-apart : FinishApart
+unfolding burstFinish
+finish-apart status criteria =
+    by-lists status criteria _ refl (finishOutcome (slotsOf status criteria)) (finish-small status criteria (slotsOf status criteria) .below)
+
+pub offer-apart : OfferApart
+unfolding burstOffer
+offer-apart status criteria x =
+    by-offer status criteria _ refl (offerOutcome (slotsOf status criteria) x) (offer-small status criteria (slotsOf status criteria) x)

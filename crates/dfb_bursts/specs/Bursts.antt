@@ -12,7 +12,7 @@ use Rattle.bursts.specs.declared.SlotState.the-variants.{Free, Held, Sending}
 use Rattle.bursts.specs.declared.Slot.{Slot}
 use Rattle.bursts.specs.declared.Slots.{Slots}
 use Rattle.bursts.specs.Slots.{slotStateOf, OfferAnswered, takes, refusedAfter, refusedAlone, offerOutcome, chooseOutcome, finishOutcome}
-use Rattle.numbers.specs.Numbers.{above16}
+use Rattle.dfb_refusals.specs.Numbers.{above16}
 
 -- ---- slots as two lists
 

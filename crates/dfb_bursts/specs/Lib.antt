@@ -1,3 +1,3 @@
 -- The C interface of burst slots: slots as lists, and what each exported function does.
 pub mod Bursts
-pub mod Apart
+pub mod Claims

@@ -82,10 +82,10 @@ fn lists_refused(status: &[u8], criteria: &[u32]) -> u32
     ensures { λ r. ⌜ r ≡ listsRefused (now (status .entry)) (now (criteria .entry)) ⌝ }
 {
     if status.len() != criteria.len() {
-        return numbers::above_16(Refusal::WrongLength);
+        return dfb_refusals::above_16(Refusal::WrongLength);
     }
     if !are_slots(status) {
-        return numbers::above_16(Refusal::UnsoundState);
+        return dfb_refusals::above_16(Refusal::UnsoundState);
     }
     0
 }
@@ -140,7 +140,7 @@ fn write_done(status: &mut [u8], criteria: &mut [u32], done: Done) -> u32
             store_slots(status, criteria, done.slots);
             i as u32
         }
-        Answer::Refused(refusal) => numbers::above_16(refusal),
+        Answer::Refused(refusal) => dfb_refusals::above_16(refusal),
     }
 }
 
@@ -158,9 +158,9 @@ fn write_offered(status: &mut [u8], criteria: &mut [u32], offered: Offered) -> u
             slot as u32 + 0x100000 * looked as u32
         }
         OfferAnswer::TurnedAway { looked } => {
-            numbers::above_16(Refusal::TurnedAway) + 0x100000 * looked as u32
+            dfb_refusals::above_16(Refusal::TurnedAway) + 0x100000 * looked as u32
         }
-        OfferAnswer::Refused(refusal) => numbers::above_16(refusal),
+        OfferAnswer::Refused(refusal) => dfb_refusals::above_16(refusal),
     }
 }
 

@@ -1,5 +1,5 @@
 -- The ends of an interval fit 16 bits; so the number of an interval has both, and is told apart from a refusal. Assumes nothing.
-use Prim.Native.Nat.{ℕ, _+_, _*_, _/_, _%_, _≤_, _<_}
+use Prim.Native.Nat.{ℕ, _+_, _*_, _≤_, _<_}
 use mathlib.Core.Path.{_≡_, refl, sym, ap, _∙_}
 use mathlib.Core.List.{List}
 use native.Mathlib.Omega.{arith}
@@ -13,8 +13,9 @@ use Rattle.interval.specs.declared.Interval.{Interval}
 use Rattle.interval.specs.Interval.{intervalOutcome}
 use Rattle.interval.proofs.Rules.{too-long}
 use Rattle.interval.proofs.Claims.{proved}
-use Rattle.numbers.specs.Numbers.{above63}
+use Rattle.dfb_refusals.specs.Numbers.{above63}
 use Rattle.dfb_interval.specs.Interval.{intervalNumber, intervalCall}
+use Rattle.dfb_interval.specs.Claims.{IntervalApart, IntervalEnds}
 
 pub interval-small : (index : List ℕ) (bonus limit : ℕ) (i : Interval) → intervalOutcome index bonus limit ≡ given i → (i .first < 0x10000) × (i .last < 0x10000)
 interval-small index bonus limit i e =
@@ -25,21 +26,19 @@ interval-small index bonus limit i e =
     (λ f. ltb-false 16000 (length index) f) in
     (omega (arith, ok .start .0, ok .start .1, ok .within, long), omega (arith, ok .within, long))
 
-module _ (index : List ℕ) (bonus limit : ℕ) where
-  number-apart : (o : Outcome Interval) → intervalOutcome index bonus limit ≡ o → ltb (intervalNumber o) above63 ≡ isGiven o
-  number-apart (given i) e =
-      let small = interval-small index bonus limit i e in
-      lt-ltb (i .first + 0x10000 * i .last) above63 (omega (arith, small .0, small .1))
-  number-apart (refused n) e = le-ltb (above63 + n) above63 (omega arith)
+pub interval-apart : IntervalApart
+unfolding intervalCall
+interval-apart index bonus limit = by (intervalOutcome index bonus limit) refl
+  where
+    by : (o : Outcome Interval) → intervalOutcome index bonus limit ≡ o → ltb (intervalNumber o) above63 ≡ isGiven o
+    by (given i) e =
+        let small = interval-small index bonus limit i e in
+        lt-ltb (i .first + 0x10000 * i .last) above63 (omega (arith, small .0, small .1))
+    by (refused n) e = le-ltb (above63 + n) above63 (omega arith)
 
-  pub interval-apart : ltb (intervalCall index bonus limit) above63 ≡ isGiven (intervalOutcome index bonus limit)
-  unfolding intervalCall
-  interval-apart = number-apart (intervalOutcome index bonus limit) refl
-
-  pub interval-ends : (i : Interval) → intervalOutcome index bonus limit ≡ given i →
-      (intervalCall index bonus limit % 0x10000 ≡ i .first) × (intervalCall index bonus limit / 0x10000 ≡ i .last)
-  unfolding intervalCall
-  interval-ends i e =
-      let small = interval-small index bonus limit i e in
-      let number : intervalNumber (intervalOutcome index bonus limit) ≡ i .first + 0x10000 * i .last = ap intervalNumber e in
-      (omega (arith, small .0, number), omega (arith, small .0, number))
+pub interval-ends : IntervalEnds
+unfolding intervalCall
+interval-ends index bonus limit i e =
+    let small = interval-small index bonus limit i e in
+    let number : intervalNumber (intervalOutcome index bonus limit) ≡ i .first + 0x10000 * i .last = ap intervalNumber e in
+    (omega (arith, small .0, number), omega (arith, small .0, number))

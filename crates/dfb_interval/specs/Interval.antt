@@ -4,7 +4,7 @@ use mathlib.Core.List.{List}
 use Rattle.refusal.specs.Outcome.{Outcome, given, refused}
 use Rattle.interval.specs.declared.Interval.{Interval}
 use Rattle.interval.specs.Interval.{intervalOutcome}
-use Rattle.numbers.specs.Numbers.{above63}
+use Rattle.dfb_refusals.specs.Numbers.{above63}
 
 -- the first block in bits 15:0 and the last in bits 31:16
 abbrev pub intervalNumber : Outcome Interval → ℕ

@@ -10,6 +10,6 @@ pub extern "C" fn dfb_choose_interval(index: &[u32], bonus: u32, limit: u32) -> 
 {
     match interval::choose_interval(index, bonus, limit) {
         IntervalAnswer::Interval(chosen) => chosen.first as u64 + 0x10000 * chosen.last as u64,
-        IntervalAnswer::Refused(refusal) => numbers::above_63(refusal),
+        IntervalAnswer::Refused(refusal) => dfb_refusals::above_63(refusal),
     }
 }

@@ -12,8 +12,8 @@ use Rattle.refusal.specs.Outcome.{Outcome, given, refused, Filled, unfilled}
 use Rattle.words.specs.Words.{setSize}
 use Rattle.sets.specs.Sets.{packFits, packedBytes, unpackFits, everyApid, samplesOf, packSized, packOutcome, unpackSized, unpackOutcome}
 use Rattle.words.proofs.Laws.{size-range, size-refused}
-use Rattle.numbers.specs.Numbers.{above16, outcomeNumber, Below}
-use Rattle.numbers.proofs.Apart.{given-below, refused-below}
+use Rattle.dfb_refusals.specs.Numbers.{above16, outcomeNumber}
+use Rattle.dfb_refusals.proofs.Apart.{Below, given-below, refused-below}
 
 -- the answer's number fits 32 bits, and a count is below the refusals
 pub record Small {A : Type 0} (f : Filled A) : Type 0 where

@@ -1,37 +1,34 @@
 -- The answers of the log's functions are told apart from refusals. Assumes nothing.
-use mathlib.Core.Path.{_≡_, refl, subst}
 use mathlib.Core.Bool.{not}
-use mathlib.Core.List.{List, _++_}
-use Prim.Native.Nat.{ℕ, _+_, _*_, _^_, _≤_, _<_}
+use mathlib.Core.List.{List}
+use Prim.Native.Nat.{ℕ, _^_, _≤_, _<_}
 use native.Mathlib.Omega.{arith}
 use borrow.Author.Tests.{leb-true, ltb-false, not-false}
 use lib.Dec.{leb, ltb}
-use lib.IntN.{ℤ}
-use lib.ListN.{length, take, drop}
+use lib.ListN.{length}
 use Rattle.lists.proofs.Choices.{cond-at}
 use Rattle.refusal.specs.Outcome.{Outcome, given, refused, Filled}
-use Rattle.sets.specs.Sets.{packOutcome, unpackOutcome}
 use Rattle.log.specs.declared.Record.{Record}
 use Rattle.log.specs.Format.{isKind, checked}
 use Rattle.log.specs.Append.{usedWith, appendChecked, appendOutcome}
 use Rattle.listing.specs.Text.{text}
 use Rattle.listing.specs.Listing.{room, listingOutcome}
 use Rattle.listing.proofs.Bound.{text-most}
-use Rattle.numbers.specs.Numbers.{above16, above63, Below, ToldApart}
-use Rattle.numbers.proofs.Apart.{given-below, refused-below, told-apart}
+use Rattle.dfb_refusals.specs.Numbers.{above16, above63}
+use Rattle.dfb_refusals.proofs.Apart.{Below, given-below, refused-below, told-apart}
 use Rattle.dfb_log.specs.Append.{recordOf, isWide, wideRefusal, appendKind}
+use Rattle.dfb_log.specs.Claims.{PackApart, UnpackApart, AppendApart, ListingApart}
 use Rattle.dfb_log.proofs.Small.{pack-small, unpack-small}
 
-pub pack-apart : (apid : ℕ) (samples : List ℤ) (out : List ℕ) → ToldApart above16 (packOutcome apid samples out .answer)
+pub pack-apart : PackApart
 pack-apart apid samples out = told-apart above16 _ (pack-small apid samples out .below)
 
-pub unpack-apart : (apid : ℕ) (bytes : List ℕ) (out : List ℤ) → ToldApart above16 (unpackOutcome apid bytes out .answer)
+pub unpack-apart : UnpackApart
 unpack-apart apid bytes out = told-apart above16 _ (unpack-small apid bytes out .below)
 
 abbrev Under : Filled ℕ → Type 0
 Under f = Below above63 (f .answer)
 
--- a list in memory has fewer than 2 ^ 63 bytes
 module _ (log : List ℕ) (used : ℕ) (long : length log < 2 ^ 63) where
   append-checked : (o : Outcome Record) → Under (appendChecked log used o)
   append-checked (refused n) = refused-below above63 n
@@ -51,8 +48,8 @@ module _ (log : List ℕ) (used : ℕ) (long : length log < 2 ^ 63) where
       (λ e. cond-at Under (isWide kind b) (λ f. refused-below above63 (wideRefusal kind a))
       (λ f. append-outcome (recordOf kind a b)))
 
-  pub append-apart : (kind a b : ℕ) → ToldApart above63 (appendKind log used kind a b .answer)
-  append-apart kind a b = told-apart above63 _ (append-kind kind a b)
+pub append-apart : AppendApart
+append-apart log used kind a b long = told-apart above63 _ (append-kind log used long kind a b)
 
 room-most : (log : List ℕ) → room log ≤ 393280
 room-most log =
@@ -65,5 +62,5 @@ listing-below log out =
     cond-at Under (ltb (length out) (room log)) (λ e. refused-below above63 2)
     (λ e. given-below above63 (length (text log)) (omega (arith, text-most log, room-most log)))
 
-pub listing-apart : (log out : List ℕ) → ToldApart above63 (listingOutcome log out .answer)
+pub listing-apart : ListingApart
 listing-apart log out = told-apart above63 _ (listing-below log out)

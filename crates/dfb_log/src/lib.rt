@@ -7,7 +7,7 @@ ghost use Rattle.refusal.specs.Number.{numberOf};
 ghost use Rattle.refusal.specs.Outcome.{writtenOutcome};
 ghost use Rattle.sets.specs.Sets.{packOutcome, unpackOutcome};
 ghost use Rattle.listing.specs.Listing.{listingOutcome};
-ghost use Rattle.numbers.specs.Numbers.{above16, above63, outcomeNumber, FilledNumber, filledNumber};
+ghost use Rattle.dfb_refusals.specs.Numbers.{above16, above63, outcomeNumber, FilledNumber, filledNumber};
 ghost use Rattle.dfb_log.specs.Append.{recordOf, isWide, wideRefusal, appendKind};
 use log::Command;
 use log::Record;
@@ -22,7 +22,7 @@ fn written_16(written: Written) -> u32
 {
     match written {
         Written::Count(n) => n as u32,
-        Written::Refused(refusal) => numbers::above_16(refusal),
+        Written::Refused(refusal) => dfb_refusals::above_16(refusal),
     }
 }
 
@@ -31,7 +31,7 @@ fn written_63(written: Written) -> u64
 {
     match written {
         Written::Count(n) => n as u64,
-        Written::Refused(refusal) => numbers::above_63(refusal),
+        Written::Refused(refusal) => dfb_refusals::above_63(refusal),
     }
 }
 
@@ -104,13 +104,13 @@ pub extern "C" fn dfb_append(log: &mut [u8], used: usize, kind: u8, a: u8, b: u3
     ensures { λ r. ⌜ record { answer = r; buffer = now (log .exit) } ≡ filledNumber above63 (appendKind (now (log .entry)) used kind a b) ⌝ }
 {
     if kind < log::COMMAND {
-        return numbers::above_63(Refusal::UnknownRecordKind);
+        return dfb_refusals::above_63(Refusal::UnknownRecordKind);
     }
     if log::TICK < kind {
-        return numbers::above_63(Refusal::UnknownRecordKind);
+        return dfb_refusals::above_63(Refusal::UnknownRecordKind);
     }
     if is_wide(kind, b) {
-        return numbers::above_63(wide_refusal(kind, a));
+        return dfb_refusals::above_63(wide_refusal(kind, a));
     }
     written_63(log::append(log, used, record_of(kind, a, b)))
 }

@@ -1,21 +1,21 @@
 -- What 02's ticket 11 claims of every interval that is chosen. Assumes nothing.
-use Prim.Native.Nat.{ℕ, _+_, _-_, _≤_, _<_}
-use mathlib.Core.Path.{_≡_, refl, sym, ap, _∙_, subst}
-use mathlib.Core.Bool.{Bool, true, false, cond, _&&_, _||_}
+use Prim.Native.Nat.{ℕ, _-_, _<_}
+use mathlib.Core.Path.{_≡_, refl, subst}
+use mathlib.Core.Bool.{Bool, true, false, _&&_, _||_}
 use mathlib.Core.List.{List}
 use native.Mathlib.Nat.{pos-of-ne-zero}
 use native.Mathlib.Omega.{arith}
 use borrow.Author.Tests.{lt-ltb, eqb-false}
 use lib.ListN.{length}
-use lib.Dec.{leb, ltb, eqb}
+use lib.Dec.{ltb, eqb}
 use Rattle.lists.proofs.Choices.{by-cases}
 use Rattle.refusal.specs.Outcome.{Outcome, given, refused}
 use Rattle.interval.specs.declared.Interval.{Interval}
 use Rattle.interval.specs.declared.Growing.{Growing}
-use Rattle.interval.specs.Interval.{allZero, startOf, joins, blocks, growing, grown, intervalOf, intervalOutcome}
+use Rattle.interval.specs.Interval.{allZero, startOf, blocks, growing, grown, intervalOf, intervalOutcome}
 use Rattle.interval.specs.Claims.{Chosen, Proved}
-use Rattle.interval.proofs.Start.{Start, start-is}
-use Rattle.interval.proofs.Growth.{Fine, grown-fine, grown-rests}
+use Rattle.interval.proofs.Start.{start-is}
+use Rattle.interval.proofs.Growth.{grown-fine, grown-rests}
 
 -- below the limit both sides are closed
 shut : (limit : ℕ) (g : Growing) → growing limit g ≡ false → blocks g < limit → (g .older ≡ false) × (g .newer ≡ false)

@@ -1,7 +1,7 @@
 -- How the interval grows: what each turn keeps, how far it reaches, and that it stops. Assumes nothing.
 use Prim.Native.Nat.{ℕ, zero, suc, _+_, _-_, _≤_, _<_}
 use mathlib.Core.Path.{_≡_, refl, sym, ap, _∙_, subst}
-use mathlib.Core.Bool.{Bool, true, false, cond, _&&_, _||_, true≢false, false≢true}
+use mathlib.Core.Bool.{Bool, true, false, _&&_, _||_, true≢false, false≢true}
 use mathlib.Core.List.{List}
 use native.Mathlib.Nat.{add-suc, add-zero}
 use native.Mathlib.Numerals.{add-one}
@@ -12,6 +12,7 @@ use lib.Dec.{ltb}
 use Rattle.lists.proofs.Choices.{by-cases, both, cond-at, cond-false}
 use Rattle.interval.specs.declared.Growing.{Growing}
 use Rattle.interval.specs.Interval.{criterion, joins, blocks, growing, tryOlder, tryNewer, alone, grown}
+use Rattle.interval.specs.Claims.{GrownRests}
 
 second-fails : (a b : Bool) → a && b ≡ false → a ≡ true → b ≡ false
 second-fails true b e f = e
@@ -211,12 +212,6 @@ module _ (index : List ℕ) (bonus limit start : ℕ) where
       (λ o. omega (arith, r .older-far below o))
       (λ o. omega (arith, f .inside, r .newer-far below (subst (λ (t : Bool). (t || g .newer) ≡ true) o (p .0))))
 
-  pub grown-rests : start < length index → 0 < limit → growing limit (grown index bonus limit start (length index)) ≡ false
-  grown-rests l h =
-      by-cases (growing limit (grown index bonus limit start (length index)))
-      (λ e. absurd (let k = growing-few l h (length index) e in omega arith))
-      (λ e. e)
-
   rests : (g : Growing) → growing limit g ≡ false → tryNewer index bonus limit start (tryOlder index bonus limit start g) ≡ g
   unfolding growing tryOlder tryNewer
   rests g e =
@@ -230,3 +225,9 @@ module _ (index : List ℕ) (bonus limit start : ℕ) where
 
   pub grown-stop : (k n : ℕ) → k ≤ n → growing limit (grown index bonus limit start k) ≡ false → grown index bonus limit start n ≡ grown index bonus limit start k
   grown-stop k n l e = let q : n ≡ k + (n - k) = omega arith in ap (grown index bonus limit start) q ∙ grown-more k (n - k) e
+
+pub grown-rests : GrownRests
+grown-rests index bonus limit start l h =
+    by-cases (growing limit (grown index bonus limit start (length index)))
+    (λ e. absurd (let k = growing-few index bonus limit start l h (length index) e in omega arith))
+    (λ e. e)

@@ -1,12 +1,11 @@
 -- The rule of a choice, case by case. Assumes nothing.
 use Prim.Native.Nat.{ℕ, _≤_, _<_}
 use mathlib.Core.Path.{_≡_, ap, _∙_}
-use mathlib.Core.Bool.{true, false, cond}
+use mathlib.Core.Bool.{true, false}
 use mathlib.Core.List.{List}
 use borrow.Author.Tests.{lt-ltb, le-ltb, eq-eqb, ne-eqb}
-use native.Mathlib.Omega.{arith}
 use lib.ListN.{length}
-use Rattle.refusal.specs.Outcome.{Outcome, given, refused}
+use Rattle.refusal.specs.Outcome.{given, refused}
 use Rattle.interval.specs.declared.Interval.{Interval}
 use Rattle.interval.specs.declared.Growing.{Growing}
 use Rattle.interval.specs.Interval.{allZero, startOf, grown, intervalOf, intervalOutcome}

@@ -6,7 +6,12 @@ use mathlib.Core.List.{List}
 use lib.ListN.{length}
 use Rattle.refusal.specs.Outcome.{given}
 use Rattle.interval.specs.declared.Interval.{Interval}
-use Rattle.interval.specs.Interval.{criterion, startOf, joins, intervalOutcome}
+use Rattle.interval.specs.Interval.{criterion, startOf, joins, growing, grown, intervalOutcome}
+
+-- after as many turns as there are blocks, both sides are closed or the limit is reached
+abbrev pub GrownRests : Type 0
+GrownRests =
+    (index : List ℕ) (bonus limit start : ℕ) → start < length index → 0 < limit → growing limit (grown index bonus limit start (length index)) ≡ false
 
 pub record Chosen (index : List ℕ) (bonus limit : ℕ) (i : Interval) : Type 0 where
   -- it holds the start, which has the greatest criterion, and no older block has as great a one

@@ -1,5 +1,5 @@
 -- What totals within their limits have. Assumes nothing.
-use Prim.Native.Nat.{ℕ, _+_, _/_, _%_, _*_, _^_, _≤_, _<_}
+use Prim.Native.Nat.{ℕ, _+_, _/_, _%_, _*_, _^_, _≤_}
 use mathlib.Core.Path.{_≡_, subst}
 use mathlib.Core.List.{List}
 use native.Mathlib.Nat.{le-trans}
@@ -10,18 +10,17 @@ use borrow.Author.Tests.{eq-eqb, ltb-true}
 use Rattle.lists.proofs.Choices.{both, cond-at}
 use Rattle.settings.specs.Settings.{settingOf, bandsOf, enabledOf}
 use Rattle.registers.specs.declared.Registers.{Registers}
-use Rattle.model.specs.Totals.{inUse, slot}
+use Rattle.model.specs.Totals.{inUse}
 use Rattle.model.specs.Board.{slotLimit, totalsWithin}
 use Rattle.limits.specs.Within.{within}
+use Rattle.limits.specs.Claims.{SoundTotals}
 use Rattle.limits.proofs.Limiting.{limit-le}
 
 pub within-784 : (r : Registers) (m : ℕ) (totals : List ℕ) → length totals ≡ 784 → within r m totals ≡ totalsWithin r m totals
 unfolding within
 within-784 r m totals e = rw (eq-eqb (length totals) 784 e)
 
--- no total is over 2 ^ 58
-pub total-le : (r : Registers) (m : ℕ) (totals : List ℕ) → m < 2 ^ 16 → ((n b : ℕ) → n < 7 → b < 112 → slot totals n b ≤ slotLimit r m n b) →
-    (i : ℕ) → i < 784 → getD totals i 0 ≤ 2 ^ 58
+pub total-le : SoundTotals
 total-le r m totals few each i h =
     let split : i / 112 * 112 + i % 112 ≡ i = omega arith in
     subst (λ (k : ℕ). getD totals k 0 ≤ 2 ^ 58) split (le-trans (each (i / 112) (i % 112) (omega arith) (omega arith)) (at (i / 112) (i % 112)))

@@ -1,3 +1,4 @@
 pub mod Within
+pub mod Claims
 -- For the contracts of private functions only.
 pub mod Private

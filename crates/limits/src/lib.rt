@@ -94,7 +94,7 @@ pub fn totals_within(registers: Registers, totals: &[u64], spectra: u16) -> bool
     }
     let bands = settings::bands(registers);
     let count = spectra as u64;
-    let mut limits = [count * 0xFFFF_FFFF; 112];
+    let mut limits = [count * 0xFFFF_FFFF; State::BANDS];
     double_octaves(
         &mut limits,
         settings::bin_setting(registers) as usize,

@@ -8,7 +8,6 @@ use native.Mathlib.Numerals.{add-one}
 use lib.ListN.{take, drop}
 use Rattle.lists.specs.Sums.{allTo}
 use Rattle.lists.specs.Tables.{tabulate, overwrite}
-use Rattle.lists.proofs.Sums.{allTo-ext}
 use Rattle.lists.proofs.Tables.{length-tabulate}
 use Rattle.lists.proofs.Overwriting.{overwrite-part}
 

@@ -5,6 +5,7 @@ use mathlib.Core.Bool.{cond}
 use mathlib.Core.List.{List, [], _∷_}
 use lib.Dec.{eqb}
 use Rattle.refusal.specs.Number.{numberOf}
+use Rattle.refusal.specs.Claims.{OneNumber}
 use Rattle.refusal.specs.declared.Refusal.{Refusal}
 use Rattle.refusal.specs.declared.Refusal.the-variants.{UnknownCommand, WrongLength, UnsoundState, UnknownApid, IncompleteSet, NoProcessorEnabled, IllegalBandCode, SumCodeOverflow, UnknownRecordKind, TruncatedBody, InputTooLong, OutOfRange, MeanOverflow, TurnedAway, NothingToSend, AlreadySending, NoneSending, ZeroLimit}
 
@@ -39,5 +40,5 @@ found AlreadySending = refl
 found NoneSending = refl
 found ZeroLimit = refl
 
-pub one-number : (a b : Refusal) → numberOf a ≡ numberOf b → a ≡ b
+pub one-number : OneNumber
 one-number a b e = sym (found a) ∙ ap (λ (n : ℕ). withNumber n all) e ∙ found b

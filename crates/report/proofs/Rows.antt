@@ -18,7 +18,7 @@ use Rattle.settings.proofs.Settings.{bands-le, before-on, before-off, averaged-
 use Rattle.model.specs.Totals.{widthOf, slot}
 use Rattle.model.specs.Report.{divisor, mean, specWord, processorBytes}
 use Rattle.model.proofs.Reports.{words-ext, length-words, length-before}
-use Rattle.report.specs.Written.{meanBits}
+use Rattle.report.specs.Writing.{meanBits}
 use Rattle.report.specs.Private.{rowMean, rowBytes}
 
 -- ---- the mean in 32 bits

@@ -16,6 +16,6 @@ unfoldable pub rowBytes : ℕ → ℕ → List ℕ → List ℕ
 rowBytes setting exponent row = concatTo (bandCount setting / 2) (specWord (rowMean setting exponent row))
 
 -- the words of a processor, written over before if it is enabled; count is how many
-pub record WordsOf (on : Bool) (setting exponent : ℕ) (row before after : List ℕ) (count : ℕ) : Type 0 where
+pub record ProcessorLeft (on : Bool) (setting exponent : ℕ) (row before after : List ℕ) (count : ℕ) : Type 0 where
   pub bytes : after ≡ cond on (rowBytes setting exponent row) before
   pub words : count ≡ cond on (bandCount setting / 2) 0

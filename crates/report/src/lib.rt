@@ -9,8 +9,8 @@ ghost use Rattle.registers.specs.Store.{bandCount};
 ghost use Rattle.codes.specs.Code.{bandCode};
 ghost use Rattle.settings.specs.Settings.{averagedSpectra, specWords};
 ghost use Rattle.model.specs.Report.{reportBytes};
-ghost use Rattle.report.specs.Written.{meanBits, reportWritten};
-ghost use Rattle.report.specs.Private.{rowMean, rowBytes, WordsOf};
+ghost use Rattle.report.specs.Writing.{meanBits, reportWritten};
+ghost use Rattle.report.specs.Private.{rowMean, rowBytes, ProcessorLeft};
 use model::State;
 use registers::Registers;
 
@@ -88,7 +88,7 @@ fn write_if_enabled(
     requires { ⌜ exponent ≤ 10 ⌝ }
     requires { ⌜ length (now row) ≡ 112 ⌝ }
     requires { ⌜ length (now out) ≡ 3 * words ⌝ }
-    ensures { λ r. ⌜ WordsOf enabled setting exponent (now (row .entry)) (now (out .entry)) (now (out .exit)) r ⌝ }
+    ensures { λ r. ⌜ ProcessorLeft enabled setting exponent (now (row .entry)) (now (out .entry)) (now (out .exit)) r ⌝ }
 {
     if enabled {
         write_row(setting, words, exponent, row, out);

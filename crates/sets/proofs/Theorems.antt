@@ -1,6 +1,5 @@
--- The round trips, for every set size: unpacking the bytes that packing wrote gives the same signed samples, and packing the samples
--- that unpacking wrote gives the same bytes.
-use Prim.Native.Nat.{ℕ, zero, suc, _+_, _*_, _/_, _%_, _<_, _≤_}
+-- The round trips, for every set. Assumes nothing.
+use Prim.Native.Nat.{ℕ, zero, suc, _+_, _*_, _/_, _%_, _<_}
 use mathlib.Core.Path.{_≡_, refl, ap, _∙_}
 use mathlib.Core.Bool.{true}
 use mathlib.Core.List.{List, [], _∷_}
@@ -14,25 +13,15 @@ use lib.Signed.{mag}
 use mir.Syntax.{w16}
 use mir.Val.{ofZ, toZ}
 use mir.ValLaws.{toZ-ofZ, ofZ-toZ}
-use Rattle.lists.specs.Tables.{overwrite}
 use Rattle.lists.proofs.Choices.{by-cases, both}
 use Rattle.refusal.specs.Outcome.{Outcome, given, refused}
 use Rattle.refusal.proofs.Outcomes.{refused-given}
 use Rattle.words.specs.Sample.{bitsOf, sampleOf}
 use Rattle.words.specs.Words.{setSize}
 use Rattle.sets.specs.Sets.{packedBytes, packFits, packSized, packOutcome, everyApid, samplesOf, unpackFits, unpackSized, unpackOutcome}
+use Rattle.sets.specs.Claims.{Are16, AreBytes, RoundTrip, ConverseRoundTrip}
 use Rattle.words.proofs.Signed.{bits-are, sample-is}
 use Rattle.sets.proofs.Laws.{packed-length, samples-length}
-
--- samples that 16 bits hold, as every list of `i16` is
-abbrev pub Are16 : List ℤ → Type 0
-Are16 [] = Unit {0}
-Are16 (z ∷ zs) = (mag z < 32768) × Are16 zs
-
--- bytes, as every list of `u8` is
-abbrev pub AreBytes : List ℕ → Type 0
-AreBytes [] = Unit {0}
-AreBytes (b ∷ bs) = (b < 256) × AreBytes bs
 
 -- a sample of its 16 bits, and the samples of their words, come back
 pub sample-of-bits : (z : ℤ) → mag z < 32768 → sampleOf (bitsOf z) ≡ z
@@ -114,37 +103,35 @@ unpack-accepted apid n bytes out e = by (setSize apid) refl e
         (λ p. absurd (refused-given 5 n (rw (q, p) at t))))
         (λ q. absurd (refused-given 2 n (rw q at t)))
 
--- unpacking the bytes that an accepted packing answers, from the output that it left, gives the samples
-module _ (apid n : ℕ) (samples : List ℤ) (out : List ℕ) (back : List ℤ) (are : Are16 samples) (ok : packOutcome apid samples out .answer ≡ given n) (room : length samples ≤ length back) where
-  packed : take n (packOutcome apid samples out .buffer) ≡ packedBytes apid samples
-  unfolding packOutcome
-  packed =
-      let a = pack-accepted apid n samples out ok in
-      let long : length (packedBytes apid samples) ≡ n = packed-length apid samples ∙ omega (arith, a .count, a .bytes) in
-      rw (a .size, a .fits) (take-at (packedBytes apid samples) _ n long)
+-- the bytes that an accepted packing answers
+packed : (apid n : ℕ) (samples : List ℤ) (out : List ℕ) → packOutcome apid samples out .answer ≡ given n →
+    take n (packOutcome apid samples out .buffer) ≡ packedBytes apid samples
+unfolding packOutcome
+packed apid n samples out ok =
+    let a = pack-accepted apid n samples out ok in
+    let long : length (packedBytes apid samples) ≡ n = packed-length apid samples ∙ omega (arith, a .count, a .bytes) in
+    rw (a .size, a .fits) (take-at (packedBytes apid samples) _ n long)
 
-  pub round-trip :
-      unpackOutcome apid (take n (packOutcome apid samples out .buffer)) back ≡ record { answer = given (length samples); buffer = overwrite samples back }
-  unfolding unpackOutcome
-  round-trip =
-      let a = pack-accepted apid n samples out ok in
-      let long : eqb (length (packedBytes apid samples)) (3 * length samples) ≡ true = eq-eqb _ _ (packed-length apid samples) in
-      let fits : leb (length samples) (length back) ≡ true = le-leb (length samples) (length back) room in
-      rw (packed, a .size, ← a .count) (simp (long, fits, every-packed apid samples, samples-packed apid samples are))
+pub round-trip : RoundTrip
+unfolding unpackOutcome
+round-trip apid n samples out back are ok room =
+    let a = pack-accepted apid n samples out ok in
+    let long : eqb (length (packedBytes apid samples)) (3 * length samples) ≡ true = eq-eqb _ _ (packed-length apid samples) in
+    let fits : leb (length samples) (length back) ≡ true = le-leb (length samples) (length back) room in
+    rw (packed apid n samples out ok, a .size, ← a .count) (simp (long, fits, every-packed apid samples, samples-packed apid samples are))
 
--- packing the samples that an accepted unpacking answers, from the output that it left, gives the bytes
-module _ (apid n : ℕ) (bytes : List ℕ) (out : List ℤ) (back : List ℕ) (are : AreBytes bytes) (ok : unpackOutcome apid bytes out .answer ≡ given n) (room : length bytes ≤ length back) where
-  unpacked : take n (unpackOutcome apid bytes out .buffer) ≡ samplesOf n bytes
-  unfolding unpackOutcome
-  unpacked =
-      let a = unpack-accepted apid n bytes out ok in
-      rw (a .size, a .fits, a .apids) (take-at (samplesOf n bytes) _ n (samples-length n bytes))
+-- the samples that an accepted unpacking answers
+unpacked : (apid n : ℕ) (bytes : List ℕ) (out : List ℤ) → unpackOutcome apid bytes out .answer ≡ given n →
+    take n (unpackOutcome apid bytes out .buffer) ≡ samplesOf n bytes
+unfolding unpackOutcome
+unpacked apid n bytes out ok =
+    let a = unpack-accepted apid n bytes out ok in
+    rw (a .size, a .fits, a .apids) (take-at (samplesOf n bytes) _ n (samples-length n bytes))
 
-  pub converse-round-trip :
-      packOutcome apid (take n (unpackOutcome apid bytes out .buffer)) back ≡ record { answer = given (length bytes); buffer = overwrite bytes back }
-  unfolding packOutcome
-  converse-round-trip =
-      let a = unpack-accepted apid n bytes out ok in
-      let long : eqb (length (samplesOf n bytes)) n ≡ true = eq-eqb _ _ (samples-length n bytes) in
-      let fits : leb (3 * n) (length back) ≡ true = le-leb (3 * n) (length back) (omega (arith, a .count)) in
-      rw (unpacked, a .size) (simp (long, fits, a .count, packed-samples apid n bytes are (a .count) (a .apids)))
+pub converse-round-trip : ConverseRoundTrip
+unfolding packOutcome
+converse-round-trip apid n bytes out back are ok room =
+    let a = unpack-accepted apid n bytes out ok in
+    let long : eqb (length (samplesOf n bytes)) n ≡ true = eq-eqb _ _ (samples-length n bytes) in
+    let fits : leb (3 * n) (length back) ≡ true = le-leb (3 * n) (length back) (omega (arith, a .count)) in
+    rw (unpacked apid n bytes out ok, a .size) (simp (long, fits, a .count, packed-samples apid n bytes are (a .count) (a .apids)))

@@ -6,7 +6,7 @@ use mathlib.Core.List.{List}
 use native.Mathlib.Nat.{add-zero, mod-eq-of-lt, mul-le-mul-right}
 use native.Mathlib.Omega.{arith}
 use lib.Dec.{ltb}
-use lib.ListN.{length, getD}
+use lib.ListN.{length}
 use borrow.Author.Tests.{eq-eqb, ltb-true}
 use Rattle.lists.proofs.Choices.{both, cond-both}
 use Rattle.lists.proofs.Tables.{grid-ext, length-grid}
@@ -14,25 +14,23 @@ use Rattle.bands.proofs.Settings.{range}
 use Rattle.settings.specs.Settings.{settingOf, bandsOf, enabledOf}
 use Rattle.registers.specs.declared.Registers.{Registers}
 use Rattle.model.specs.Totals.{inUse, widthOf, bandPower, slot, added}
-use Rattle.model.specs.Calls.{Powers}
 use Rattle.model.proofs.SpectraTotals.{bandPower-le}
 use Rattle.totals.specs.Adding.{addedSlot, addedModulo}
+use Rattle.totals.specs.Claims.{AddedPlain}
 
-module _ (r : Registers) (totals powers : List ℕ) (small : (i : ℕ) → i < 784 → getD totals i 0 ≤ 2 ^ 62) (fit : Powers powers) where
-  no-wrap : (n b : ℕ) → n < 7 → b < bandsOf r → b < 112 → slot totals n b + bandPower r powers n b < 2 ^ 64
-  no-wrap n b h k l =
-      let wide : widthOf r b ≤ 1024 = omega (arith, range (settingOf r) b k .within) in
-      omega (arith, small (n * 112 + b) (omega arith), bandPower-le r n b k powers fit, mul-le-mul-right {m = widthOf r b} {n = 1024} (2 ^ 32 - 1) wide)
-
-  -- the totals with one tick's powers added
-  pub added-plain : length totals ≡ 784 → length powers ≡ 7168 → addedModulo r totals powers ≡ added r totals powers
-  unfolding addedModulo added
-  added-plain long bins =
-      rw (eq-eqb _ _ long, eq-eqb _ _ bins)
-      (grid-ext 7 112 (addedSlot r totals powers) _ (λ n b h l.
-      cond-both (λ (x : ℕ). x) (λ (x : ℕ). slot totals n b + x) (inUse r n b)
-      (λ u. mod-eq-of-lt (no-wrap n b h (ltb-true b (bandsOf r) (both (enabledOf r n) (ltb b (bandsOf r)) u .1)) l))
-      (λ u. sym (add-zero (slot totals n b)))))
+pub added-plain : AddedPlain
+unfolding addedModulo added
+added-plain r totals powers small fit long bins =
+    rw (eq-eqb _ _ long, eq-eqb _ _ bins)
+    (grid-ext 7 112 (addedSlot r totals powers) _ (λ n b h l.
+    cond-both (λ (x : ℕ). x) (λ (x : ℕ). slot totals n b + x) (inUse r n b)
+    (λ u. mod-eq-of-lt (no-wrap n b h (ltb-true b (bandsOf r) (both (enabledOf r n) (ltb b (bandsOf r)) u .1)) l))
+    (λ u. sym (add-zero (slot totals n b)))))
+  where
+    no-wrap : (n b : ℕ) → n < 7 → b < bandsOf r → b < 112 → slot totals n b + bandPower r powers n b < 2 ^ 64
+    no-wrap n b h k l =
+        let wide : widthOf r b ≤ 1024 = omega (arith, range (settingOf r) b k .within) in
+        omega (arith, small (n * 112 + b) (omega arith), bandPower-le r n b k powers fit, mul-le-mul-right {m = widthOf r b} {n = 1024} (2 ^ 32 - 1) wide)
 
 pub length-added : (r : Registers) (totals powers : List ℕ) → length (added r totals powers) ≡ 784
 unfolding added

@@ -10,9 +10,9 @@ use Rattle.lists.specs.Tables.{tabulate, overwrite}
 use Rattle.lists.proofs.Sums.{sumTo-ext}
 use Rattle.lists.proofs.Tables.{length-tabulate}
 use Rattle.lists.proofs.Overwriting.{part, length-part, getD-part, table-next, table-more, overwrite-all}
-use Rattle.totals.specs.Private.{runSlot, addedRun, Run}
+use Rattle.totals.specs.Private.{runSlot, addedRun, BandsOfWidth}
 
-module _ (width : ℕ) (row powers : List ℕ) (r : Run width row powers) where
+module _ (width : ℕ) (row powers : List ℕ) (r : BandsOfWidth width row powers) where
   pub run-in : (i : ℕ) → i < length row → i * width + width ≤ length powers
   run-in i h = omega (arith, r .bins, suc-mul i width, mul-le-mul {n₁ = suc i} {m₁ = width} {n₂ = length row} {m₂ = width} h (le-refl width))
 

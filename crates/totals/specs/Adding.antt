@@ -1,5 +1,5 @@
--- 01, "Periods": the totals after a tick's powers are added, in 64-bit arithmetic. `added-plain` of proofs/Laws.antt: wherever no total
--- is over 2 ^ 62, they are `added` of crate `model`.
+-- 01, "Periods": the totals after a tick's powers are added, in 64-bit arithmetic. Wherever no total is over 2 ^ 62, they are `added` of
+-- crate `model` (`AddedPlain` of Claims.antt).
 use Prim.Native.Nat.{ℕ, _+_, _%_, _^_}
 use mathlib.Core.Bool.{cond, _&&_}
 use mathlib.Core.List.{List}

@@ -1,3 +1,4 @@
 pub mod Adding
+pub mod Claims
 -- For the contracts of private functions only.
 pub mod Private

@@ -27,6 +27,6 @@ unfoldable pub addedRow : ℕ → List ℕ → List ℕ → List ℕ
 addedRow setting row powers = tabulate 112 (rowSlot setting row powers)
 
 -- the powers of bands of so many bins
-pub record Run (width : ℕ) (row powers : List ℕ) : Type 0 where
+pub record BandsOfWidth (width : ℕ) (row powers : List ℕ) : Type 0 where
   pub bins : length powers ≡ length row * width
   pub few : length powers ≤ 1024

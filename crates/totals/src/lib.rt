@@ -6,7 +6,7 @@ ghost use lib.ListN.{length, getD};
 ghost use Rattle.lists.specs.Sums.{sumTo};
 ghost use Rattle.lists.specs.Tables.{grid};
 ghost use Rattle.totals.specs.Adding.{addedSlot, addedModulo};
-ghost use Rattle.totals.specs.Private.{addedRun, addedRow, Run};
+ghost use Rattle.totals.specs.Private.{addedRun, addedRow, BandsOfWidth};
 use model::State;
 use registers::Registers;
 use std::num::wrapping_add_u64;
@@ -25,7 +25,7 @@ fn sum(bins: &[u32]) -> u64
 
 // Bands of as many bins.
 fn add_run(row: &mut [u64], powers: &[u32], width: usize)
-    requires { ⌜ Run width (now row) (now powers) ⌝ }
+    requires { ⌜ BandsOfWidth width (now row) (now powers) ⌝ }
     ensures { λ _. ⌜ now (row .exit) ≡ addedRun width (now (row .entry)) (now (powers .entry)) ⌝ }
 {
     for i in 0..row.len() {
@@ -36,7 +36,7 @@ fn add_run(row: &mut [u64], powers: &[u32], width: usize)
 
 // The bands of an octave. A call for each of the smaller widths gives the compiler sums of a known length.
 fn add_octave(row: &mut [u64], powers: &[u32], width: usize)
-    requires { ⌜ Run width (now row) (now powers) ⌝ }
+    requires { ⌜ BandsOfWidth width (now row) (now powers) ⌝ }
     ensures { λ _. ⌜ now (row .exit) ≡ addedRun width (now (row .entry)) (now (powers .entry)) ⌝ }
 {
     match width {

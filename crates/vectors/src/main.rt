@@ -15,11 +15,11 @@ use show::name;
 use show::number;
 use show::refused;
 
-// The whole number of hertz that a float of a band description stands for, all of which are multiples of 4; 99,999 for any other.
-fn hertz(f: f32) -> u64 {
-    for i in 0u16..2049 {
-        if f == (4 * i) as f32 {
-            return 4 * i as u64;
+// The whole number, 0 to 8,192, that a float is; 99,999 for any other float.
+fn whole_number(f: f32) -> u64 {
+    for i in 0u16..8193 {
+        if f == i as f32 {
+            return i as u64;
         }
     }
     99999
@@ -86,10 +86,10 @@ fn show_description(setting: u8, band: u8) {
             let low = d.low;
             let width = d.width;
             let centre = d.centre;
-            number(hertz(low));
-            number(hertz(low + width));
-            number(hertz(width));
-            number(hertz(centre));
+            number(whole_number(low));
+            number(whole_number(low + width));
+            number(whole_number(width));
+            number(whole_number(centre));
         }
         BandDescription::Refused(r) => refused(r),
     }
@@ -108,11 +108,11 @@ fn show_cadence(choice: u8) {
     match bands::cadence_of(choice) {
         Cadence::Rate(f) => {
             name(b" rate");
-            number(hertz(4.0 * f));
+            number(whole_number(f));
         }
         Cadence::Period(f) => {
             name(b" period");
-            number(hertz(4.0 * f));
+            number(whole_number(f));
         }
         Cadence::Refused(r) => refused(r),
     }

@@ -3,7 +3,7 @@ use mathlib.Core.Path.{refl}
 use Rattle.codes.specs.Code.{leastFrom, exponent, codeOf, valueOf, bandCode, bandValue, sumCode, sumValue}
 use Rattle.bands.specs.Band.{greatestTo, octave, bandOf}
 use Rattle.registers.specs.Store.{highStored, lowStored, storedAt}
-use Rattle.worked.specs.Starred.{Starred}
+use Rattle.worked.specs.Claims.{Starred}
 
 pub starred : Starred
 unfolding leastFrom exponent codeOf valueOf bandCode bandValue sumCode sumValue greatestTo octave bandOf highStored lowStored storedAt

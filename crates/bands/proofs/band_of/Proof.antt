@@ -5,8 +5,7 @@ use native.Mathlib.Omega.{arith}
 use borrow.Author.Needs.{needs}
 use borrow.Author.Tests.{le-leb, lt-leb}
 use Rattle.refusal.specs.Outcome.{given}
-use Rattle.bands.specs.Band.{bandOf}
-use Rattle.bands.specs.Private.{coarser}
+use Rattle.bands.specs.Band.{bandOf, coarser}
 use Rattle.bands.specs.Answer.{bandFound}
 use Rattle.bands.proofs.Rule.{band-coarser}
 use Rattle.bands.proofs.band_of.Statement.{statement}

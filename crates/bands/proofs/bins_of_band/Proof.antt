@@ -65,8 +65,8 @@ sub-m c =
     le-trans (mod-le _ 256)
     (subst (λ (e : ℕ). e * 2 ^ (c .before .before .before .args .setting + 2) ≤ c .before .before .before .args .band) (sym (is-exponent c)) (known (c .before) .base-le))
 
-cast-t14 : tie.Need-cast-t14
-cast-t14 c = search needs
+cast-t7 : tie.Need-cast-t7
+cast-t7 c = search needs
 
 cast-t15 : tie.Need-cast-t15
 cast-t15 c = search needs
@@ -97,7 +97,7 @@ bins-of-band-spec =
     width-exponent-requires
     shl-m
     sub-m
-    cast-t14
+    cast-t7
     cast-t15
     shl-t16
     cast-t17

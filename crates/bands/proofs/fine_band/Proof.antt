@@ -4,7 +4,8 @@ use mathlib.Core.List.{List}
 use Prim.Native.Nat.{ℕ}
 use borrow.Author.Needs.{needs}
 use Rattle.codes.specs.Code.{leastFrom, exponent}
-use Rattle.bands.proofs.FineBands.{FineTable, fine-band-at}
+use Rattle.bands.specs.Claims.{FineTable}
+use Rattle.bands.proofs.FineBands.{fine-band-at}
 use Rattle.bands.proofs.fine_band.Statement.{statement}
 use Rattle.bands.proofs.fine_band.Reads as reads
 use Rattle.bands.proofs.fine_band.Lts as lts

@@ -1,9 +1,5 @@
 -- `bursts::take` meets its contract. The slots are what `change` gives. Assumes nothing.
-use mathlib.Core.Path.{ap}
 use borrow.Author.Needs.{needs}
-use Rattle.bursts.specs.declared.Answer.{Answer}
-use Rattle.bursts.specs.declared.Slots.{Slots}
-use Rattle.bursts.specs.declared.Done.{Done}
 use Rattle.bursts.proofs.take.Statement.{statement}
 use Rattle.bursts.proofs.take.Tie as tie
 use Rattle.bursts.proofs.change.Reads as change-reads

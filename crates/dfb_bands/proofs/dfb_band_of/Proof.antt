@@ -3,7 +3,7 @@ use mathlib.Core.Path.{sym, ap, _∙_}
 use Prim.Native.Nat.{ℕ, _+_}
 use borrow.Author.Needs.{needs}
 use Rattle.bands.specs.Answer.{bandIndexOutcome}
-use Rattle.numbers.specs.Numbers.{above8, outcomeNumber}
+use Rattle.dfb_refusals.specs.Numbers.{above8, outcomeNumber}
 use Rattle.dfb_bands.proofs.dfb_band_of.Statement.{statement}
 use Rattle.dfb_bands.proofs.dfb_band_of.Tie as tie
 

@@ -9,9 +9,9 @@ use lib.Seq.{sets-eq}
 use Rattle.refusal.specs.Outcome.{Outcome}
 use Rattle.bands.specs.declared.Description.{Description}
 use Rattle.bands.specs.Answer.{bandDescriptionOutcome}
-use Rattle.numbers.specs.Numbers.{above16, filledNumber}
+use Rattle.dfb_refusals.specs.Numbers.{above16, filledNumber}
 use Rattle.dfb_bands.specs.Values.{valuesWritten, threeValues, bandWritten}
-use Rattle.numbers.proofs.Numbers.{numbered}
+use Rattle.dfb_refusals.proofs.Numbers.{numbered}
 use Rattle.dfb_bands.proofs.Values.{values-short, values-fit}
 use Rattle.dfb_bands.proofs.dfb_describe_band.Statement.{statement}
 use Rattle.dfb_bands.proofs.dfb_describe_band.Tie as tie

@@ -2,8 +2,8 @@
 use mathlib.Core.Path.{sym, ap, _∙_}
 use borrow.Author.Needs.{needs}
 use Rattle.codes.specs.Expanded.{bandValueOutcome}
-use Rattle.numbers.specs.Numbers.{above63, outcomeNumber}
-use Rattle.numbers.proofs.Numbers.{refused-number}
+use Rattle.dfb_refusals.specs.Numbers.{above63, outcomeNumber}
+use Rattle.dfb_refusals.proofs.Numbers.{refused-number}
 use Rattle.dfb_bands.proofs.dfb_expand_band.Statement.{statement}
 use Rattle.dfb_bands.proofs.dfb_expand_band.Tie as tie
 

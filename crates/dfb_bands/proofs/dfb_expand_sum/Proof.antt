@@ -7,9 +7,9 @@ use borrow.Author.Needs.{needs}
 use lib.Seq.{sets-eq}
 use Rattle.refusal.specs.Outcome.{Outcome}
 use Rattle.codes.specs.Expanded.{sumValueOutcome}
-use Rattle.numbers.specs.Numbers.{above16, filledNumber}
+use Rattle.dfb_refusals.specs.Numbers.{above16, filledNumber}
 use Rattle.dfb_bands.specs.Values.{valuesWritten, oneValue, sumWritten}
-use Rattle.numbers.proofs.Numbers.{numbered}
+use Rattle.dfb_refusals.proofs.Numbers.{numbered}
 use Rattle.dfb_bands.proofs.Values.{values-short, values-fit}
 use Rattle.dfb_bands.proofs.dfb_expand_sum.Statement.{statement}
 use Rattle.dfb_bands.proofs.dfb_expand_sum.Tie as tie

@@ -2,8 +2,8 @@
 use mathlib.Core.Path.{sym, ap}
 use borrow.Author.Needs.{needs}
 use Rattle.registers.specs.Access.{answerOutcome}
-use Rattle.numbers.specs.Numbers.{above16}
-use Rattle.numbers.proofs.Numbers.{refused-number}
+use Rattle.dfb_refusals.specs.Numbers.{above16}
+use Rattle.dfb_refusals.proofs.Numbers.{refused-number}
 use Rattle.dfb_board.proofs.answer_16.Statement.{statement}
 use Rattle.dfb_board.proofs.answer_16.Tie as tie
 

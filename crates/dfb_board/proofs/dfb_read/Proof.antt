@@ -4,7 +4,7 @@ use native.Mathlib.Omega.{arith}
 use borrow.Author.Needs.{needs}
 use Rattle.registers.specs.Access.{answerOutcome, registerRead}
 use Rattle.model.specs.declared.State.{State}
-use Rattle.numbers.specs.Numbers.{above16, outcomeNumber}
+use Rattle.dfb_refusals.specs.Numbers.{above16, outcomeNumber}
 use Rattle.dfb_board.proofs.Calls.{read-other, read-state}
 use Rattle.dfb_board.proofs.dfb_read.Statement.{statement}
 use Rattle.dfb_board.proofs.dfb_read.Tie as tie

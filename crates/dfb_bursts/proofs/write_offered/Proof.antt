@@ -1,15 +1,14 @@
 -- `dfb_bursts::write_offered` meets its contract: each arm is a case of the rule. Assumes nothing.
-use mathlib.Core.Path.{_≡_, refl, sym, ap, _∙_}
+use mathlib.Core.Path.{refl, sym, ap, _∙_}
 use Prim.Native.Nat.{ℕ, _+_, _*_}
-use mathlib.Core.List.{List}
 use native.Mathlib.Omega.{arith}
 use Rattle.bursts.specs.declared.OfferAnswer.{OfferAnswer}
 use Rattle.bursts.specs.Slots.{offerAnswerOutcome}
 use Rattle.refusal.specs.Number.{numberOf}
 use Rattle.refusal.specs.Outcome.{refused}
-use Rattle.numbers.specs.Numbers.{above16}
-use Rattle.numbers.proofs.Numbers.{refused-number}
-use Rattle.dfb_bursts.specs.Bursts.{BurstCall, offerCall, unchanged}
+use Rattle.dfb_refusals.specs.Numbers.{above16}
+use Rattle.dfb_refusals.proofs.Numbers.{refused-number}
+use Rattle.dfb_bursts.specs.Bursts.{offerCall, unchanged}
 use Rattle.dfb_bursts.proofs.Bursts.{written-lists}
 use borrow.Author.Needs.{needs}
 use Rattle.dfb_bursts.proofs.write_offered.Statement.{statement}

@@ -1,8 +1,8 @@
 -- `dfb_interval::dfb_choose_interval` meets its contract: each arm is a case of the rule, and the ends fit 16 bits. Assumes nothing.
-use mathlib.Core.Path.{_≡_, sym, ap, _∙_}
+use mathlib.Core.Path.{sym, ap, _∙_}
 use native.Mathlib.Omega.{arith}
 use Rattle.refusal.specs.Outcome.{given}
-use Rattle.interval.specs.Interval.{intervalAnswerOutcome, intervalOutcome}
+use Rattle.interval.specs.Interval.{intervalAnswerOutcome}
 use Rattle.dfb_interval.specs.Interval.{intervalNumber, intervalCall}
 use Rattle.dfb_interval.proofs.Interval.{interval-small}
 use borrow.Author.Needs.{needs}

@@ -7,8 +7,8 @@ use borrow.Author.Needs.{needs}
 use borrow.Author.Tests.{le-leb, lt-leb}
 use Rattle.log.specs.Format.{isKind}
 use Rattle.log.specs.Append.{appendOutcome}
-use Rattle.numbers.specs.Numbers.{above63}
-use Rattle.numbers.proofs.Numbers.{numbered}
+use Rattle.dfb_refusals.specs.Numbers.{above63}
+use Rattle.dfb_refusals.proofs.Numbers.{numbered}
 use Rattle.dfb_log.proofs.Append.{append-other, append-wide, append-record}
 use Rattle.dfb_log.proofs.dfb_append.Statement.{statement}
 use Rattle.dfb_log.proofs.dfb_append.Tie as tie

@@ -1,7 +1,7 @@
 -- `dfb_log::dfb_listing` meets its contract: the answer is the outcome's number. Assumes nothing.
 use borrow.Author.Needs.{needs}
-use Rattle.numbers.specs.Numbers.{above63}
-use Rattle.numbers.proofs.Numbers.{numbered}
+use Rattle.dfb_refusals.specs.Numbers.{above63}
+use Rattle.dfb_refusals.proofs.Numbers.{numbered}
 use Rattle.dfb_log.proofs.dfb_listing.Statement.{statement}
 use Rattle.dfb_log.proofs.dfb_listing.Tie as tie
 

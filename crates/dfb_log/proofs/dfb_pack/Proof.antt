@@ -1,8 +1,8 @@
 -- `dfb_log::dfb_pack` meets its contract: the answer is the outcome's number, and it is small. Assumes nothing.
 use mathlib.Core.Path.{sym, subst}
 use borrow.Author.Needs.{needs}
-use Rattle.numbers.specs.Numbers.{above16}
-use Rattle.numbers.proofs.Numbers.{numbered}
+use Rattle.dfb_refusals.specs.Numbers.{above16}
+use Rattle.dfb_refusals.proofs.Numbers.{numbered}
 use Rattle.dfb_log.proofs.Small.{Small, pack-small}
 use Rattle.dfb_log.proofs.dfb_pack.Statement.{statement}
 use Rattle.dfb_log.proofs.dfb_pack.Tie as tie

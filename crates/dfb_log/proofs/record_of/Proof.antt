@@ -1,11 +1,11 @@
 -- `dfb_log::record_of` meets its contract: each return is a case of the rule, and 16 bits are enough for the number of a command or a word.
 -- Assumes nothing.
 use mathlib.Core.Path.{_≡_}
-use mathlib.Core.Bool.{Bool, true, false, _&&_}
+use mathlib.Core.Bool.{true, false}
 use Prim.Native.Nat.{ℕ, _≤_}
 use native.Mathlib.Omega.{arith}
 use borrow.Author.Tests.{eq-eqb, ne-eqb, le-leb, ltb-false}
-use lib.Dec.{leb, ltb}
+use lib.Dec.{leb}
 use Rattle.dfb_log.specs.Append.{isWide}
 use Rattle.dfb_log.proofs.record_of.Statement.{statement}
 use Rattle.dfb_log.proofs.record_of.Tie as tie

@@ -4,8 +4,8 @@ use native.Mathlib.Omega.{arith}
 use borrow.Author.Needs.{needs}
 use Rattle.refusal.specs.declared.Written.{Written}
 use Rattle.refusal.specs.Outcome.{writtenOutcome}
-use Rattle.numbers.specs.Numbers.{above16, outcomeNumber}
-use Rattle.numbers.proofs.Numbers.{refused-number}
+use Rattle.dfb_refusals.specs.Numbers.{above16, outcomeNumber}
+use Rattle.dfb_refusals.proofs.Numbers.{refused-number}
 use Rattle.dfb_log.proofs.written_16.Statement.{statement}
 use Rattle.dfb_log.proofs.written_16.Tie as tie
 

@@ -3,8 +3,8 @@ use mathlib.Core.Path.{sym, ap}
 use borrow.Author.Needs.{needs}
 use Rattle.refusal.specs.declared.Written.{Written}
 use Rattle.refusal.specs.Outcome.{writtenOutcome}
-use Rattle.numbers.specs.Numbers.{above63, outcomeNumber}
-use Rattle.numbers.proofs.Numbers.{refused-number}
+use Rattle.dfb_refusals.specs.Numbers.{above63, outcomeNumber}
+use Rattle.dfb_refusals.proofs.Numbers.{refused-number}
 use Rattle.dfb_log.proofs.written_63.Statement.{statement}
 use Rattle.dfb_log.proofs.written_63.Tie as tie
 

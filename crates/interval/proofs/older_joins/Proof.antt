@@ -1,9 +1,7 @@
 -- `interval::older_joins` meets its contract. Each return has the test that led there. Assumes nothing.
-use Prim.Native.Nat.{_+_}
 use mathlib.Core.Path.{_∙_}
 use borrow.Author.Needs.{needs}
 use borrow.Author.Tests.{lt-ltb, le-ltb}
-use lib.ListN.{length}
 use Rattle.interval.proofs.older_joins.Statement.{statement}
 use Rattle.interval.proofs.older_joins.Tie as tie
 

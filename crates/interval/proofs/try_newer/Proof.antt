@@ -1,11 +1,8 @@
 -- `interval::try_newer` meets its contract. Each return has the tests that led there. Assumes nothing.
 use mathlib.Core.Path.{_≡_, sym, _∙_}
 use mathlib.Core.Bool.{true, false}
-use native.Mathlib.Omega.{arith}
 use borrow.Author.Needs.{needs}
-use borrow.Author.Tests.{ltb-true, not-true, not-false}
-use lib.Dec.{ltb}
-use Rattle.lists.proofs.Choices.{both}
+use borrow.Author.Tests.{not-true, not-false}
 use Rattle.interval.specs.Interval.{tryNewer}
 use Rattle.interval.proofs.try_newer.Statement.{statement}
 use Rattle.interval.proofs.try_newer.Tie as tie

@@ -1,6 +1,6 @@
 -- `report::write_report` meets its contract. Assumes nothing.
 use borrow.Author.Tests.{eq-eqb, ne-eqb, le-leb, lt-leb}
-use Rattle.report.specs.Written.{reportWritten}
+use Rattle.report.specs.Writing.{reportWritten}
 use borrow.Author.Needs.{needs}
 use Rattle.report.proofs.write_report.Statement.{statement}
 use Rattle.report.proofs.write_report.Tie as tie

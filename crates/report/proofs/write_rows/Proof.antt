@@ -3,7 +3,7 @@ use lib.Dec.{lit≤}
 use Rattle.lists.proofs.Choices.{cond-at}
 use Rattle.registers.specs.declared.Registers.{Registers}
 use Rattle.registers.specs.Store.{bandCount}
-use Rattle.report.specs.Written.{meanBits}
+use Rattle.report.specs.Writing.{meanBits}
 use Rattle.report.specs.Private.{rowBytes}
 use Rattle.model.specs.Report.{processorBytes, reportBytes}
 use Rattle.settings.proofs.Settings.{bands-le}

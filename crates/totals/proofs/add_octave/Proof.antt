@@ -2,14 +2,14 @@
 use Prim.Native.Nat.{ℕ}
 use mathlib.Core.Path.{_≡_, ap, sym, _∙_, subst}
 use mathlib.Core.List.{List}
-use Rattle.totals.specs.Private.{Run, addedRun}
+use Rattle.totals.specs.Private.{BandsOfWidth, addedRun}
 use borrow.Author.Needs.{needs}
 use Rattle.totals.proofs.add_octave.Statement.{statement}
 use Rattle.totals.proofs.add_octave.Tie as tie
 
 -- an arm's width is the octave's
-same-run : (width known : ℕ) (row powers : List ℕ) → width ≡ known → Run width row powers → Run known row powers
-same-run width known row powers e = subst (λ (w : ℕ). Run w row powers) e
+same-run : (width known : ℕ) (row powers : List ℕ) → width ≡ known → BandsOfWidth width row powers → BandsOfWidth known row powers
+same-run width known row powers e = subst (λ (w : ℕ). BandsOfWidth w row powers) e
 
 same-row : (width known : ℕ) (row powers after : List ℕ) → width ≡ known → after ≡ addedRun known row powers → after ≡ addedRun width row powers
 same-row width known row powers after e p = p ∙ ap (λ (w : ℕ). addedRun w row powers) (sym e)

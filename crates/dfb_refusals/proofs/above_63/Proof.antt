@@ -1,8 +1,8 @@
--- `numbers::above_63` meets its contract: a refusal's number is small, and the base is the one that the rule names. Assumes nothing.
+-- `dfb_refusals::above_63` meets its contract: a refusal's number is small, and the base is the one that the rule names. Assumes nothing.
 use native.Mathlib.Omega.{arith}
 use borrow.Author.Needs.{needs}
-use Rattle.numbers.proofs.above_63.Statement.{statement}
-use Rattle.numbers.proofs.above_63.Tie as tie
+use Rattle.dfb_refusals.proofs.above_63.Statement.{statement}
+use Rattle.dfb_refusals.proofs.above_63.Tie as tie
 
 returns : tie.Need-returns
 returns c = omega arith

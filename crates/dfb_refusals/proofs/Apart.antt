@@ -5,7 +5,11 @@ use native.Mathlib.Omega.{arith}
 use borrow.Author.Tests.{lt-ltb, le-ltb}
 use Rattle.refusal.specs.Outcome.{Outcome, given, refused}
 use Rattle.refusal.proofs.Outcomes.{refused-given}
-use Rattle.numbers.specs.Numbers.{Below, ToldApart}
+use Rattle.dfb_refusals.specs.Numbers.{ToldApart}
+
+-- the values that are accepted lie below the base of refusals
+pub record Below (base : ℕ) (o : Outcome ℕ) : Type 0 where
+  pub value : (v : ℕ) → o ≡ given v → v < base
 
 pub given-below : (base v : ℕ) → v < base → Below base (given v)
 given-below base v h = record { value = λ w e. let same : v ≡ w = cc in subst (λ (n : ℕ). n < base) same h }

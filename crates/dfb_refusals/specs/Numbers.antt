@@ -1,6 +1,6 @@
 -- The numbers that the C interface answers (include/dfb.h): a value, or a base plus a refusal's number, which no value of that function
 -- equals.
-use Prim.Native.Nat.{ℕ, _+_, _^_, _<_}
+use Prim.Native.Nat.{ℕ, _+_, _^_}
 use mathlib.Core.Path.{_≡_}
 use lib.Dec.{ltb}
 use mathlib.Core.List.{List}
@@ -28,10 +28,6 @@ pub record FilledNumber (A : Type 0) : Type 0 where
 
 abbrev pub filledNumber : {A : Type 0} → ℕ → Filled A → FilledNumber A
 filledNumber base f = record { answer = outcomeNumber base (f .answer); buffer = f .buffer }
-
--- the values that are accepted lie below the base of refusals
-pub record Below (base : ℕ) (o : Outcome ℕ) : Type 0 where
-  pub value : (v : ℕ) → o ≡ given v → v < base
 
 -- a caller tells an accepted answer from a refusal by the base
 abbrev pub ToldApart : ℕ → Outcome ℕ → Type 0

@@ -4,7 +4,7 @@ use Prim.Native.Nat.{ℕ, _+_}
 use Rattle.refusal.specs.declared.Refusal.{Refusal}
 use Rattle.refusal.specs.Number.{numberOf}
 use Rattle.refusal.specs.Outcome.{Outcome, refused, Filled}
-use Rattle.numbers.specs.Numbers.{outcomeNumber, FilledNumber, filledNumber}
+use Rattle.dfb_refusals.specs.Numbers.{outcomeNumber, FilledNumber, filledNumber}
 
 -- the answer of a refusal is the number of its outcome
 pub refused-number : (base : ℕ) (refusal : Refusal) {n : ℕ} {o : Outcome ℕ} → n ≡ base + numberOf refusal → refused (numberOf refusal) ≡ o →

@@ -2,7 +2,7 @@
 ghost use mathlib.Core.Path.{_≡_};
 ghost use Prim.Native.Nat.{_+_};
 ghost use Rattle.refusal.specs.Number.{numberOf};
-ghost use Rattle.numbers.specs.Numbers.{above16, above63};
+ghost use Rattle.dfb_refusals.specs.Numbers.{above16, above63};
 use refusal::Refusal;
 
 // A refusal above 16-bit answers.

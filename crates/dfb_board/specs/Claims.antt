@@ -1,0 +1,57 @@
+-- How a caller tells the answers of a command, a tick or a read apart: below 0x10000 an accepted answer, then a refusal, and from 0x20000 a
+-- report. Assumes nothing.
+use Prim.Native.Nat.{ℕ, _+_}
+use mathlib.Core.Path.{_≡_}
+use mathlib.Core.Bool.{Bool, true, false, not, _&&_, _||_}
+use mathlib.Core.List.{List}
+use lib.Dec.{leb, ltb, eqb}
+use lib.ListN.{length}
+use Rattle.refusal.specs.Outcome.{isGiven}
+use Rattle.registers.specs.Access.{registerRead}
+use Rattle.model.specs.Reply.{Reply}
+use Rattle.model.specs.Reply as reply
+use Rattle.model.specs.Board.{commandOutcome, tickOutcome}
+use Rattle.dfb_refusals.specs.Numbers.{above16}
+use Rattle.dfb_board.specs.State.{stateOf}
+use Rattle.dfb_board.specs.Calls.{commandCall, tickCall, readCall}
+
+abbrev pub isRefused : Reply ℕ → Bool
+isRefused (reply.refused n) = true
+isRefused (reply.stores v) = false
+isRefused reply.idle = false
+isRefused reply.collected = false
+isRefused reply.waiting = false
+isRefused (reply.reported words) = false
+
+abbrev pub isReported : Reply ℕ → Bool
+isReported (reply.refused n) = false
+isReported (reply.stores v) = false
+isReported reply.idle = false
+isReported reply.collected = false
+isReported reply.waiting = false
+isReported (reply.reported words) = true
+
+-- the number is that of a refusal, or of a report, exactly where the answer is one; a report has at most 392 words
+pub record ReplyToldApart (number : ℕ) (refusal report : Bool) : Type 0 where
+  pub refused : (leb above16 number && ltb number 0x20000) ≡ refusal
+  pub reported : (leb 0x20000 number && leb number (0x20000 + 392)) ≡ report
+
+-- ---- the calls: a state of another length than 8 is a refusal too
+
+abbrev pub CommandCallApart : Type 0
+CommandCallApart =
+    (state totals : List ℕ) (id v : ℕ) →
+    ReplyToldApart (commandCall state totals id v .answer)
+    (not (eqb (length state) 8) || isRefused (commandOutcome (stateOf state) totals id v .answer))
+    (eqb (length state) 8 && isReported (commandOutcome (stateOf state) totals id v .answer))
+
+abbrev pub TickCallApart : Type 0
+TickCallApart =
+    (state totals powers out : List ℕ) →
+    ReplyToldApart (tickCall state totals powers out .answer)
+    (not (eqb (length state) 8) || isRefused (tickOutcome (stateOf state) totals powers out .answer))
+    (eqb (length state) 8 && isReported (tickOutcome (stateOf state) totals powers out .answer))
+
+abbrev pub ReadCallApart : Type 0
+ReadCallApart =
+    (state : List ℕ) (id : ℕ) → ltb (readCall state id) above16 ≡ (eqb (length state) 8 && isGiven (registerRead (stateOf state .registers) id))

@@ -1,0 +1,2 @@
+-- How the C interface answers with numbers.
+pub mod Numbers

@@ -1,2 +1,0 @@
--- How the answers of the C interface are numbers.
-pub mod Numbers

@@ -1,0 +1,35 @@
+-- 01, "Words and sets": what packing wrote is unpacked to the same samples, and what unpacking wrote is packed to the same bytes; of every set.
+-- Assumes nothing.
+use Prim.Native.Nat.{ℕ, _≤_, _<_}
+use mathlib.Core.Path.{_≡_}
+use mathlib.Core.List.{List, [], _∷_}
+use lib.IntN.{ℤ}
+use lib.ListN.{length, take}
+use lib.Signed.{mag}
+use Rattle.lists.specs.Tables.{overwrite}
+use Rattle.refusal.specs.Outcome.{given}
+use Rattle.sets.specs.Sets.{packOutcome, unpackOutcome}
+
+-- samples that 16 bits hold, as every list of `i16` is
+abbrev pub Are16 : List ℤ → Type 0
+Are16 [] = Unit {0}
+Are16 (z ∷ zs) = (mag z < 32768) × Are16 zs
+
+-- bytes, as every list of `u8` is
+abbrev pub AreBytes : List ℕ → Type 0
+AreBytes [] = Unit {0}
+AreBytes (b ∷ bs) = (b < 256) × AreBytes bs
+
+-- unpacking the n bytes that an accepted packing answers, from the output that it left, gives the samples
+abbrev pub RoundTrip : Type 0
+RoundTrip =
+    (apid n : ℕ) (samples : List ℤ) (out : List ℕ) (back : List ℤ) →
+    Are16 samples → packOutcome apid samples out .answer ≡ given n → length samples ≤ length back →
+    unpackOutcome apid (take n (packOutcome apid samples out .buffer)) back ≡ record { answer = given (length samples); buffer = overwrite samples back }
+
+-- packing the n samples that an accepted unpacking answers, from the output that it left, gives the bytes
+abbrev pub ConverseRoundTrip : Type 0
+ConverseRoundTrip =
+    (apid n : ℕ) (bytes : List ℕ) (out : List ℤ) (back : List ℕ) →
+    AreBytes bytes → unpackOutcome apid bytes out .answer ≡ given n → length bytes ≤ length back →
+    packOutcome apid (take n (unpackOutcome apid bytes out .buffer)) back ≡ record { answer = given (length bytes); buffer = overwrite bytes back }
