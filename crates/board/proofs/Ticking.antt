@@ -16,7 +16,7 @@ use Rattle.model.specs.declared.State.{State}
 use Rattle.model.specs.Totals.{inUse, widthOf, bandPower, slot, added}
 use Rattle.model.specs.Board.{slotLimit, spectraHeld, totalsWithin}
 use Rattle.model.specs.Calls.{Powers}
-use Rattle.model.proofs.Phases.{phase-lt, held-le, held-reporting}
+use Rattle.model.proofs.Phases.{period-lt, held-le, held-reporting}
 use Rattle.model.proofs.SpectraTotals.{bandPower-le}
 use Rattle.model.proofs.Sound.{Sound, sound-parts}
 use Rattle.limits.proofs.Laws.{total-le}
@@ -32,7 +32,7 @@ module _ (s : State) (totals powers out : List ℕ) (t : Ticking s totals powers
   parts = sound-parts s totals (t .sound-state)
 
   pub phase-in : s .phase < periodTicks r
-  phase-in = phase-lt r (s .phase) (t .is-running) (parts .phase)
+  phase-in = period-lt s (t .is-running) (parts .period)
 
   -- no sum comes to 2 ^ 64
   pub added-here : Powers powers → addedModulo r totals powers ≡ added r totals powers

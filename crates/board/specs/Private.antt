@@ -1,11 +1,12 @@
--- What a tick of a running board is given. No public contract cites this file.
+-- What a tick of a running board is given, and what it leaves. No public contract cites this file.
 use Prim.Native.Nat.{ℕ, _≤_}
 use mathlib.Core.Path.{_≡_}
 use mathlib.Core.Bool.{true}
 use mathlib.Core.List.{List}
 use lib.ListN.{length}
 use Rattle.settings.specs.Settings.{runningOf}
-use Rattle.model.specs.Board.{stateSound}
+use Rattle.model.specs.Totals.{added}
+use Rattle.model.specs.Board.{stateSound, TickOutcome, reportOutcome, runningOutcome}
 use Rattle.model.specs.declared.State.{State}
 
 -- the lists have their lengths, and the state is sound and running
@@ -15,3 +16,10 @@ pub record Ticking (s : State) (totals powers out : List ℕ) : Type 0 where
   pub room : 1176 ≤ length out
   pub sound-state : stateSound s totals ≡ true
   pub is-running : runningOf (s .registers) ≡ true
+
+-- the tick with the powers handed in, whose sums are the totals with them added: at phase N - 1, and at any phase
+abbrev pub reportingTick : State → List ℕ → List ℕ → List ℕ → TickOutcome
+reportingTick s totals powers out = reportOutcome s totals (added (s .registers) totals powers) out
+
+abbrev pub runningTick : State → List ℕ → List ℕ → List ℕ → TickOutcome
+runningTick s totals powers out = runningOutcome s totals (added (s .registers) totals powers) out

@@ -8,9 +8,10 @@ ghost use lib.ListN.{length};
 ghost use Rattle.registers.specs.Store.{stored};
 ghost use Rattle.registers.specs.Access.{isId, registersSound, storedTo};
 ghost use Rattle.settings.specs.Settings.{averagedSpectra, runningOf};
-ghost use Rattle.model.specs.Totals.{noTotals, added};
-ghost use Rattle.model.specs.Board.{phaseSound, spectraHeld, totalsWithin, stateSound, commandReply, commandOutcome, tickReply, atNextPhase, lengthsFit, reportOutcome, runningOutcome, tickOutcome};
-ghost use Rattle.board.specs.Private.{Ticking};
+ghost use Rattle.model.specs.Totals.{noTotals};
+ghost use Rattle.model.specs.Board.{periodSound, spectraHeld, totalsWithin, stateSound, atNextPhase, lengthsFit};
+ghost use Rattle.model.specs.Board.{commandedOutcome, commandOutcome, tickedOutcome, tickOutcome};
+ghost use Rattle.board.specs.Private.{Ticking, reportingTick, runningTick};
 use limits::totals_within;
 use model::Commanded;
 use model::State;
@@ -23,14 +24,14 @@ use report::write_report;
 use totals::add_spectrum;
 
 // The phase is below C when running, and otherwise 0.
-fn is_phase_sound(registers: Registers, running: bool, phase: u16) -> bool
-    requires { ⌜ running ≡ runningOf registers ⌝ }
-    ensures { λ r. ⌜ r ≡ phaseSound registers phase ⌝ }
+fn is_period_sound(state: State, running: bool) -> bool
+    requires { ⌜ running ≡ runningOf (state .registers) ⌝ }
+    ensures { λ r. ⌜ r ≡ periodSound state ⌝ }
 {
     if running {
-        phase < settings::period_ticks(registers)
+        state.phase < settings::period_ticks(state.registers)
     } else {
-        phase == 0
+        state.phase == 0
     }
 }
 
@@ -55,14 +56,17 @@ fn is_sound(state: State, running: bool, totals: &[u64]) -> bool
     ensures { λ r. ⌜ r ≡ stateSound state (now (totals .entry)) ⌝ }
 {
     let registers = state.registers;
-    let phase = state.phase;
-    if !store::is_sound(registers) {
+    if !registers.is_sound() {
         return false;
     }
-    if !is_phase_sound(registers, running, phase) {
+    if !is_period_sound(state, running) {
         return false;
     }
-    totals_within(registers, totals, spectra_held(registers, running, phase))
+    totals_within(
+        registers,
+        totals,
+        spectra_held(registers, running, state.phase),
+    )
 }
 
 // Sets every total to 0.
@@ -90,7 +94,7 @@ fn accepted_command(state: State, id: u8, information: u16) -> Commanded
     ensures { λ r. ⌜ r ≡ record { answer = Answer.Value (stored id information); state = record { registers = storedTo (state .registers) id information; phase = 0 } } ⌝ }
 {
     let present = state.registers;
-    let write = store::write(present, id, information);
+    let write = present.write(id, information);
     let answer = write.answer;
     let registers = write.registers;
     Commanded {
@@ -104,13 +108,13 @@ fn accepted_command(state: State, id: u8, information: u16) -> Commanded
 
 // A command: an ID and 16 bits of information. Refused by 2, 3, then 1.
 pub fn command(state: State, totals: &mut [u64], id: u8, information: u16) -> Commanded
-    ensures { λ r. ⌜ record { answer = commandReply (r .answer); state = r .state; totals = now (totals .exit) } ≡ commandOutcome state (now (totals .entry)) id information ⌝ }
+    ensures { λ r. ⌜ commandedOutcome r (now (totals .exit)) ≡ commandOutcome state (now (totals .entry)) id information ⌝ }
 {
     if totals.len() != State::TOTALS {
         return refused_command(state, Refusal::WrongLength);
     }
     let registers = state.registers;
-    if !is_sound(state, processors::running(registers), totals) {
+    if !is_sound(state, settings::running(registers), totals) {
         return refused_command(state, Refusal::UnsoundState);
     }
     if !registers::is_id(id) {
@@ -148,7 +152,7 @@ fn reporting_tick(
     requires { ⌜ Ticking state (now totals) (now powers) (now out) ⌝ }
     requires { ⌜ state .phase ≡ averagedSpectra (state .registers) - 1 ⌝ }
     requires { ⌜ next ≡ atNextPhase state ⌝ }
-    ensures { λ r. ⌜ record { answer = tickReply (r .answer); state = r .state; totals = now (totals .exit); out = now (out .exit) } ≡ reportOutcome state (now (totals .entry)) (added (state .registers) (now (totals .entry)) (now (powers .entry))) (now (out .entry)) ⌝ }
+    ensures { λ r. ⌜ tickedOutcome r (now (totals .exit)) (now (out .exit)) ≡ reportingTick state (now (totals .entry)) (now (powers .entry)) (now (out .entry)) ⌝ }
 {
     let registers = state.registers;
     add_spectrum(registers, totals, powers);
@@ -166,7 +170,7 @@ fn reporting_tick(
 // A tick of a running board.
 fn running_tick(state: State, totals: &mut [u64], powers: &[u32], out: &mut [u8]) -> Ticked
     requires { ⌜ Ticking state (now totals) (now powers) (now out) ⌝ }
-    ensures { λ r. ⌜ record { answer = tickReply (r .answer); state = r .state; totals = now (totals .exit); out = now (out .exit) } ≡ runningOutcome state (now (totals .entry)) (added (state .registers) (now (totals .entry)) (now (powers .entry))) (now (out .entry)) ⌝ }
+    ensures { λ r. ⌜ tickedOutcome r (now (totals .exit)) (now (out .exit)) ≡ runningTick state (now (totals .entry)) (now (powers .entry)) (now (out .entry)) ⌝ }
 {
     let registers = state.registers;
     let phase = state.phase;
@@ -211,13 +215,13 @@ fn are_lengths(powers: usize, totals: usize, out: usize) -> bool
 
 // A tick with 7 rows of 1,024 powers. Refused by 2, 3, then 13.
 pub fn tick(state: State, totals: &mut [u64], powers: &[u32], out: &mut [u8]) -> Ticked
-    ensures { λ r. ⌜ record { answer = tickReply (r .answer); state = r .state; totals = now (totals .exit); out = now (out .exit) } ≡ tickOutcome state (now (totals .entry)) (now (powers .entry)) (now (out .entry)) ⌝ }
+    ensures { λ r. ⌜ tickedOutcome r (now (totals .exit)) (now (out .exit)) ≡ tickOutcome state (now (totals .entry)) (now (powers .entry)) (now (out .entry)) ⌝ }
 {
     if !are_lengths(powers.len(), totals.len(), out.len()) {
         return refused_tick(state, Refusal::WrongLength);
     }
     let registers = state.registers;
-    let is_running = processors::running(registers);
+    let is_running = settings::running(registers);
     if !is_sound(state, is_running, totals) {
         return refused_tick(state, Refusal::UnsoundState);
     }

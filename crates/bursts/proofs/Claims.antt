@@ -14,7 +14,7 @@ use Rattle.bursts.specs.declared.SlotState.{SlotState}
 use Rattle.bursts.specs.declared.SlotState.the-variants.{Free, Held, Sending}
 use Rattle.bursts.specs.Slots.{slotStateOf, isFree, isSending, heldBelow, smallestHeld, noSlot, sendingSlots, changed}
 use Rattle.bursts.specs.Calls.{Call, offer, choose, finish, perform, afterCalls, offers, NoFinish}
-use Rattle.bursts.specs.Claims.{Sound, heldFrom, heldAtLeast, offeredAtLeast, Proved}
+use Rattle.bursts.specs.Claims.{Sound, heldFrom, heldAtLeast, offeredAtLeast, BurstsKept}
 use Rattle.bursts.proofs.Rules.{sound-few}
 use Rattle.bursts.proofs.Cases.{offer-cases}
 use Rattle.bursts.proofs.Totals.{passing-changed, passing-le, passing-all, passing-none}
@@ -139,8 +139,8 @@ turned-away-stays s ok x f g =
 
 -- ---- all of it
 
-pub proved : Proved
-proved s ok =
+pub bursts-kept : BurstsKept
+bursts-kept s ok =
     record {
       stays-sound = λ cs. all-sound cs s ok;
       as-many = λ cs. all-many cs s ok;

@@ -48,8 +48,8 @@ pub record SlotsKept (s : Slots) : Type 0 where
       heldAtLeast x (afterCalls s (offers xs)) ≡ min (s .count) (heldAtLeast x s + offeredAtLeast x xs)
   pub turned-away-stays : (x : ℕ) → noSlot s isFree ≡ true → noSlot s (heldBelow x) ≡ true → perform s (offer x) ≡ s
 
-abbrev pub Proved : Type 0
-Proved = (s : Slots) → Sound s → SlotsKept s
+abbrev pub BurstsKept : Type 0
+BurstsKept = (s : Slots) → Sound s → SlotsKept s
 
 -- ---- ticket 10: two sound states of as many slots that agree as far as an offer looks get the same answer
 

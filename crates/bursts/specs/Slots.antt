@@ -11,7 +11,7 @@ use Rattle.refusal.specs.Outcome.{Outcome, given, refused}
 use Rattle.bursts.specs.declared.SlotState.{SlotState}
 use Rattle.bursts.specs.declared.SlotState.the-variants.{Free, Held, Sending}
 use Rattle.bursts.specs.declared.Slots.{Slots}
-use Rattle.bursts.specs.declared.Answer.{Answer}
+use Rattle.bursts.specs.declared.SlotAnswer.{SlotAnswer}
 use Rattle.bursts.specs.declared.Done.{Done}
 use Rattle.bursts.specs.declared.OfferAnswer.{OfferAnswer}
 use Rattle.bursts.specs.declared.Offered.{Offered}
@@ -84,9 +84,9 @@ pub record SlotsOutcome : Type 0 where
   pub answer : Outcome ℕ
   pub slots : Slots
 
-abbrev pub slotOutcome : Answer → Outcome ℕ
-slotOutcome (Answer.Slot i) = given i
-slotOutcome (Answer.Refused r) = refused (numberOf r)
+abbrev pub slotOutcome : SlotAnswer → Outcome ℕ
+slotOutcome (SlotAnswer.Slot i) = given i
+slotOutcome (SlotAnswer.Refused r) = refused (numberOf r)
 
 abbrev pub doneOutcome : Done → SlotsOutcome
 doneOutcome d = record { answer = slotOutcome (d .answer); slots = d .slots }

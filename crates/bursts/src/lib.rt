@@ -26,14 +26,14 @@ pub struct Slots {
 }
 
 // The slot that a call takes, from 0, or the refusal.
-pub enum Answer {
+pub enum SlotAnswer {
     Slot(usize),
     Refused(Refusal),
 }
 
 // What a call leaves: its answer, and the slots afterwards.
 pub struct Done {
-    pub answer: Answer,
+    pub answer: SlotAnswer,
     pub slots: Slots,
 }
 
@@ -170,10 +170,10 @@ fn change(slots: Slots, place: usize, state: SlotState) -> Slots
 }
 
 fn refuse(slots: Slots, refusal: Refusal) -> Done
-    ensures { λ r. ⌜ r ≡ record { answer = Answer.Refused refusal; slots = slots } ⌝ }
+    ensures { λ r. ⌜ r ≡ record { answer = SlotAnswer.Refused refusal; slots = slots } ⌝ }
 {
     Done {
-        answer: Answer::Refused(refusal),
+        answer: SlotAnswer::Refused(refusal),
         slots: slots,
     }
 }
@@ -181,11 +181,11 @@ fn refuse(slots: Slots, refusal: Refusal) -> Done
 // The slot is the answer, and has a new state.
 fn take(slots: Slots, place: usize, state: SlotState) -> Done
     requires { ⌜ place < 32 ⌝ }
-    ensures { λ r. ⌜ r ≡ record { answer = Answer.Slot place; slots = changed slots place state } ⌝ }
+    ensures { λ r. ⌜ r ≡ record { answer = SlotAnswer.Slot place; slots = changed slots place state } ⌝ }
 {
     let after = change(slots, place, state);
     Done {
-        answer: Answer::Slot(place),
+        answer: SlotAnswer::Slot(place),
         slots: after,
     }
 }

@@ -1,8 +1,8 @@
 // Calls on burst slots, one case for each rule of 02, tickets 9 and 10. tools/burst_cases.py writes the cases in main, and the expected output from
 // a model of its own. A line is the call, its answer (s with a slot, r with a refusal, n with the slots that an offer looked at) and the slots: free ., sending S, held with a digit or *.
-use bursts::Answer;
 use bursts::OfferAnswer;
 use bursts::Slot;
+use bursts::SlotAnswer;
 use bursts::SlotState;
 use bursts::Slots;
 use refusal::Refusal;
@@ -22,10 +22,10 @@ fn show_number(letter: u8, number: usize) {
     put(digit(number % 10));
 }
 
-fn show_answer(answer: Answer) {
+fn show_answer(answer: SlotAnswer) {
     match answer {
-        Answer::Slot(slot) => show_number(b's', slot),
-        Answer::Refused(refusal) => show_number(b'r', refusal::number(refusal) as usize),
+        SlotAnswer::Slot(slot) => show_number(b's', slot),
+        SlotAnswer::Refused(refusal) => show_number(b'r', refusal::number(refusal) as usize),
     }
 }
 
@@ -63,7 +63,7 @@ fn show_slots(slots: Slots) {
     put(b'\n');
 }
 
-fn leave(answer: Answer, slots: Slots) -> Slots {
+fn leave(answer: SlotAnswer, slots: Slots) -> Slots {
     show_answer(answer);
     put(b' ');
     show_slots(slots);

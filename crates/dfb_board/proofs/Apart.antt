@@ -2,7 +2,7 @@
 use mathlib.Core.Path.{_≡_, refl, subst}
 use mathlib.Core.Bool.{Bool, true, false, cond, not, _&&_, _||_}
 use mathlib.Core.List.{List}
-use Prim.Native.Nat.{ℕ, _+_, _-_, _*_, _/_, _≤_, _<_}
+use Prim.Native.Nat.{ℕ, _+_, _-_, _/_, _≤_, _<_}
 use native.Mathlib.Nat.{le-trans, mul-le-mul-left}
 use native.Mathlib.Omega.{arith}
 use borrow.Author.Tests.{le-ltb, le-leb, lt-leb, not-false}
@@ -19,15 +19,15 @@ use Rattle.registers.proofs.Stored.{stored-lt}
 use Rattle.settings.proofs.Settings.{enabled-le}
 use Rattle.registers.proofs.Theorems.{sound-at}
 use Rattle.model.specs.declared.State.{State}
-use Rattle.model.specs.Reply.{Reply, refused, stores, idle, collected, waiting, reported}
+use Rattle.model.specs.Reply.{Reply, refused, stores, reported}
 use Rattle.model.specs.Totals.{added, slot}
 use Rattle.model.specs.Report.{meansWithin}
 use Rattle.model.specs.Board.{stateSound, CommandOutcome, commandOutcome, TickOutcome, reportOutcome, runningOutcome, lengthsFit, tickOutcome}
-use Rattle.refusal.specs.Outcome.{Outcome, isGiven}
+use Rattle.refusal.specs.Outcome.{isGiven}
 use Rattle.dfb_refusals.specs.Numbers.{above16, outcomeNumber, ToldApart}
 use Rattle.dfb_refusals.proofs.Apart.{Below, given-below, refused-below, told-apart}
 use Rattle.dfb_board.specs.State.{stateOf}
-use Rattle.dfb_board.specs.Calls.{replyNumber, CommandCall, commandLeft, commandCall, TickCall, tickLeft, tickCall, readCall}
+use Rattle.dfb_board.specs.Calls.{replyNumber, commandLeft, commandCall, tickLeft, tickCall, readCall}
 use Rattle.dfb_board.specs.Claims.{isRefused, isReported, CommandCallApart, TickCallApart, ReadCallApart}
 use Rattle.dfb_board.specs.Claims as apart
 

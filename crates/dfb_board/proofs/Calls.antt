@@ -12,7 +12,7 @@ use Rattle.dfb_board.specs.State.{stateOf, stateWords}
 use Rattle.dfb_board.specs.Calls.{replyNumber, CommandCall, commandLeft, commandCall, TickCall, tickLeft, tickCall, readCall}
 
 -- the number of a command's answer
-pub command-number : (a : Answer) → outcomeNumber above16 (answerOutcome a) ≡ replyNumber (commandReply a)
+pub command-number : (a : Answer) → outcomeNumber above16 (answerOutcome a) ≡ replyNumber (commandReply (answerOutcome a))
 command-number (Answer.Value v) = refl
 command-number (Answer.Refused n) = refl
 

@@ -1,6 +1,6 @@
 -- A command or a tick that the board refuses leaves state, totals and output as they were. Assumes nothing.
 use mathlib.Core.Path.{_≡_, sym, ap, _∙_}
-use mathlib.Core.Bool.{Bool, not, _&&_}
+use mathlib.Core.Bool.{not}
 use mathlib.Core.List.{List}
 use Prim.Native.Nat.{ℕ, _+_, _-_}
 use native.Mathlib.Omega.{arith}
@@ -10,13 +10,14 @@ use Rattle.lists.proofs.Choices.{cond-at}
 use Rattle.registers.specs.Access.{isId}
 use Rattle.settings.specs.Settings.{averagedSpectra, runningOf}
 use Rattle.model.specs.declared.State.{State}
-use Rattle.model.specs.Reply.{Reply, refused, stores, idle, collected, waiting, reported}
+use Rattle.model.specs.Reply.{Reply, refused, idle, collected, waiting}
 use Rattle.model.specs.Totals.{added, slot}
 use Rattle.model.specs.Report.{meansWithin}
 use Rattle.model.specs.Board.{stateSound, CommandOutcome, commandRefused, commandAccepted, commandOutcome, TickOutcome, withoutReport, atNextPhase, tickReported, reportOutcome, runningOutcome, lengthsFit, tickOutcome}
 use Rattle.dfb_refusals.specs.Numbers.{above16}
 use Rattle.dfb_board.specs.State.{stateOf}
-use Rattle.dfb_board.specs.Calls.{CommandCall, commandLeft, commandCall, TickCall, tickLeft, tickCall}
+use Rattle.dfb_board.specs.Calls.{commandLeft, tickLeft}
+use Rattle.dfb_board.specs.Claims.{RefusedCommandUnchanged, RefusedTickUnchanged}
 use Rattle.dfb_board.proofs.State.{state-words}
 use Rattle.dfb_board.proofs.Calls.{command-state, tick-state}
 
@@ -71,17 +72,14 @@ module _ (s : State) (totals out : List ℕ) (n : ℕ) where
       (λ _. other-tick (withoutReport idle s totals out) (λ e. let z : _≡_ {A = ℕ} 0 1 = cc in omega arith))
       (λ _. running-same (added (s .registers) totals powers))))
 
-module _ (state totals : List ℕ) (n : ℕ) (eight : length state ≡ 8) where
-  pub command-refused : (id v : ℕ) → commandOutcome (stateOf state) totals id v .answer ≡ refused n →
-      commandCall state totals id v ≡ record { answer = above16 + n; state = state; totals = totals }
-  command-refused id v e =
-      sym (command-state state eight totals id v)
-      ∙ ap commandLeft (command-same (stateOf state) totals n id v .same e)
-      ∙ ap (λ (l : List ℕ). record { answer = above16 + n; state = l; totals = totals }) (state-words state eight)
+pub refused-command-unchanged : RefusedCommandUnchanged
+refused-command-unchanged state totals n eight id v e =
+    sym (command-state state eight totals id v)
+    ∙ ap commandLeft (command-same (stateOf state) totals n id v .same e)
+    ∙ ap (λ (l : List ℕ). record { answer = above16 + n; state = l; totals = totals }) (state-words state eight)
 
-  pub tick-refused : (powers out : List ℕ) → tickOutcome (stateOf state) totals powers out .answer ≡ refused n →
-      tickCall state totals powers out ≡ record { answer = above16 + n; state = state; totals = totals; out = out }
-  tick-refused powers out e =
-      sym (tick-state state eight totals powers out)
-      ∙ ap tickLeft (tick-same (stateOf state) totals out n powers .same e)
-      ∙ ap (λ (l : List ℕ). record { answer = above16 + n; state = l; totals = totals; out = out }) (state-words state eight)
+pub refused-tick-unchanged : RefusedTickUnchanged
+refused-tick-unchanged state totals n eight powers out e =
+    sym (tick-state state eight totals powers out)
+    ∙ ap tickLeft (tick-same (stateOf state) totals out n powers .same e)
+    ∙ ap (λ (l : List ℕ). record { answer = above16 + n; state = l; totals = totals; out = out }) (state-words state eight)

@@ -42,12 +42,15 @@ pub record TickCall : Type 0 where
   pub totals : List ℕ
   pub out : List ℕ
 
+abbrev pub tickCallLeft : ℕ → List ℕ → List ℕ → List ℕ → TickCall
+tickCallLeft answer state totals out = record { answer = answer; state = state; totals = totals; out = out }
+
 abbrev pub tickLeft : TickOutcome → TickCall
-tickLeft o = record { answer = replyNumber (o .answer); state = stateWords (o .state); totals = o .totals; out = o .out }
+tickLeft o = tickCallLeft (replyNumber (o .answer)) (stateWords (o .state)) (o .totals) (o .out)
 
 unfoldable pub tickCall : List ℕ → List ℕ → List ℕ → List ℕ → TickCall
 tickCall state totals powers out =
-    cond (not (eqb (length state) 8)) (record { answer = above16 + 2; state = state; totals = totals; out = out })
+    cond (not (eqb (length state) 8)) (tickCallLeft (above16 + 2) state totals out)
     (tickLeft (tickOutcome (stateOf state) totals powers out))
 
 -- what dfb_read answers

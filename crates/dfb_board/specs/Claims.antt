@@ -1,5 +1,5 @@
 -- How a caller tells the answers of a command, a tick or a read apart: below 0x10000 an accepted answer, then a refusal, and from 0x20000 a
--- report. Assumes nothing.
+-- report; and what a refused call leaves. Assumes nothing.
 use Prim.Native.Nat.{ℕ, _+_}
 use mathlib.Core.Path.{_≡_}
 use mathlib.Core.Bool.{Bool, true, false, not, _&&_, _||_}
@@ -55,3 +55,15 @@ TickCallApart =
 abbrev pub ReadCallApart : Type 0
 ReadCallApart =
     (state : List ℕ) (id : ℕ) → ltb (readCall state id) above16 ≡ (eqb (length state) 8 && isGiven (registerRead (stateOf state .registers) id))
+
+-- ---- a call that the board refuses leaves state, totals and output as they were
+
+abbrev pub RefusedCommandUnchanged : Type 0
+RefusedCommandUnchanged =
+    (state totals : List ℕ) (n : ℕ) → length state ≡ 8 → (id v : ℕ) → commandOutcome (stateOf state) totals id v .answer ≡ reply.refused n →
+    commandCall state totals id v ≡ record { answer = above16 + n; state = state; totals = totals }
+
+abbrev pub RefusedTickUnchanged : Type 0
+RefusedTickUnchanged =
+    (state totals : List ℕ) (n : ℕ) → length state ≡ 8 → (powers out : List ℕ) → tickOutcome (stateOf state) totals powers out .answer ≡ reply.refused n →
+    tickCall state totals powers out ≡ record { answer = above16 + n; state = state; totals = totals; out = out }

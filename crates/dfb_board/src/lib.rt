@@ -6,7 +6,7 @@ ghost use Rattle.registers.specs.Access.{answerOutcome};
 ghost use Rattle.model.specs.Board.{tickReply};
 ghost use Rattle.dfb_refusals.specs.Numbers.{above16, outcomeNumber};
 ghost use Rattle.dfb_board.specs.State.{stateOf, stateWords};
-ghost use Rattle.dfb_board.specs.Calls.{replyNumber, CommandCall, commandCall, readCall, TickCall, tickCall};
+ghost use Rattle.dfb_board.specs.Calls.{replyNumber, CommandCall, commandCall, readCall, tickCallLeft, tickCall};
 use model::State;
 use model::TickAnswer;
 use refusal::Refusal;
@@ -114,7 +114,7 @@ pub extern "C" fn dfb_tick(
     powers: &[u32],
     out: &mut [u8],
 ) -> u32
-    ensures { λ r. ⌜ record { answer = r; state = now (state .exit); totals = now (totals .exit); out = now (out .exit) } ≡ tickCall (now (state .entry)) (now (totals .entry)) (now (powers .entry)) (now (out .entry)) ⌝ }
+    ensures { λ r. ⌜ tickCallLeft r (now (state .exit)) (now (totals .exit)) (now (out .exit)) ≡ tickCall (now (state .entry)) (now (totals .entry)) (now (powers .entry)) (now (out .entry)) ⌝ }
 {
     if state.len() != STATE {
         return dfb_refusals::above_16(Refusal::WrongLength);

@@ -23,7 +23,7 @@ use Rattle.bursts.proofs.Rules.{sound-few, offer-by-place, choose-by-place, fin
 use Rattle.dfb_refusals.specs.Numbers.{above16}
 use Rattle.dfb_refusals.proofs.Apart.{Below, given-below, refused-below}
 use Rattle.dfb_bursts.specs.Claims.{OfferParts}
-use Rattle.dfb_bursts.specs.Bursts.{areSlots, listsRefused, slotFrom, slotsOf, statuses, criteriaOf, BurstCall, unchanged, written, onSlots, doneCall, offerCall}
+use Rattle.dfb_bursts.specs.Bursts.{areSlots, listsRefused, slotFrom, slotsOf, statuses, criteriaOf, BurstCall, burstLeft, slotsLeft, onSlots, doneCall, offerCall}
 
 module _ (status : List ℕ) where
   pub too-many : 32 < length status → false ≡ areSlots status
@@ -63,7 +63,7 @@ stored f l l₀ i n long end e =
 
 -- the two lists after an accepted call
 pub written-lists : (n : ℕ) (status l k : List ℕ) (s : Slots) → l ≡ statuses (length status) s → k ≡ criteriaOf (length status) s →
-    _≡_ {A = BurstCall} (record { answer = n; status = l; criteria = k }) (written n status s)
+    _≡_ {A = BurstCall} (record { answer = n; status = l; criteria = k }) (slotsLeft n status s)
 written-lists n status l k s e f =
     ap (λ (m : List ℕ). record { answer = n; status = m; criteria = k }) e
     ∙ ap (λ (m : List ℕ). record { answer = n; status = statuses (length status) s; criteria = m }) f
@@ -93,7 +93,7 @@ module _ (status criteria : List ℕ) where
       leb-true (length status) 32
       (both _ _ (not-false _ (neither (not (eqb (length status) (length criteria))) (not (areSlots status)) e .1)) .0)
 
-  pub on-refused : (call : BurstCall) → (listsRefused status criteria ≡ 0 → ⊥) → unchanged (listsRefused status criteria) status criteria ≡ onSlots status criteria call
+  pub on-refused : (call : BurstCall) → (listsRefused status criteria ≡ 0 → ⊥) → burstLeft (listsRefused status criteria) status criteria ≡ onSlots status criteria call
   on-refused call other = simp (ne-eqb (listsRefused status criteria) 0 other)
 
   pub on-slots : (call : BurstCall) → listsRefused status criteria ≡ 0 → call ≡ onSlots status criteria call

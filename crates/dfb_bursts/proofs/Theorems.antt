@@ -12,7 +12,7 @@ use Rattle.bursts.specs.declared.Slots.{Slots}
 use Rattle.bursts.specs.Slots.{SlotsOutcome, refusedAlone, OfferOutcome, chooseOutcome, finishOutcome, offerOutcome}
 use Rattle.dfb_refusals.specs.Numbers.{above16, outcomeNumber}
 use Rattle.dfb_refusals.proofs.Apart.{Below, told-apart}
-use Rattle.dfb_bursts.specs.Bursts.{areSlots, listsRefused, slotsOf, unchanged, doneCall, offerCall, burstOffer, burstChoose, burstFinish}
+use Rattle.dfb_bursts.specs.Bursts.{areSlots, listsRefused, slotsOf, burstLeft, doneCall, offerCall, burstOffer, burstChoose, burstFinish}
 use Rattle.dfb_bursts.specs.Claims.{ChooseApart, FinishApart, OfferParts, OfferApart}
 use Rattle.dfb_bursts.proofs.Bursts.{SmallOffer, choose-small, finish-small, offer-small}
 
@@ -27,7 +27,7 @@ module _ (status criteria : List ℕ) where
   done-number (refused n) s = refl
 
   by-lists : (t : Bool) → eqb (listsRefused status criteria) 0 ≡ t → (o : SlotsOutcome) → Below above16 (o .answer) →
-      ltb (cond t (doneCall status criteria (o .answer) (o .slots)) (unchanged (listsRefused status criteria) status criteria) .answer) above16 ≡ (t && isGiven (o .answer))
+      ltb (cond t (doneCall status criteria (o .answer) (o .slots)) (burstLeft (listsRefused status criteria) status criteria) .answer) above16 ≡ (t && isGiven (o .answer))
   by-lists true e o b = ap (λ (n : ℕ). ltb n above16) (done-number (o .answer) (o .slots)) ∙ told-apart above16 (o .answer) b
   by-lists false e o b =
       le-ltb (listsRefused status criteria) above16
@@ -39,7 +39,7 @@ module _ (status criteria : List ℕ) where
   refused-most false false = omega arith
 
   by-offer : (t : Bool) → eqb (listsRefused status criteria) 0 ≡ t → (o : OfferOutcome) → SmallOffer status criteria o →
-      OfferParts (cond t (offerCall status criteria (o .answer) (o .slots)) (unchanged (listsRefused status criteria) status criteria) .answer) (cond t (o .answer) (refusedAlone (listsRefused status criteria - above16)))
+      OfferParts (cond t (offerCall status criteria (o .answer) (o .slots)) (burstLeft (listsRefused status criteria) status criteria) .answer) (cond t (o .answer) (refusedAlone (listsRefused status criteria - above16)))
   by-offer true e o small = small .apart
   by-offer false e o small =
       let p = not (eqb (length status) (length criteria)) in

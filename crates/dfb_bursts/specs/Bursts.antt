@@ -60,28 +60,28 @@ pub record BurstCall : Type 0 where
   pub status : List ℕ
   pub criteria : List ℕ
 
--- refused: the lists are as they were
-abbrev pub unchanged : ℕ → List ℕ → List ℕ → BurstCall
-unchanged answer status criteria = record { answer = answer; status = status; criteria = criteria }
+-- an answer and the lists afterwards; at a refusal they are as they were
+abbrev pub burstLeft : ℕ → List ℕ → List ℕ → BurstCall
+burstLeft answer status criteria = record { answer = answer; status = status; criteria = criteria }
 
 -- accepted: the lists are those of the slots afterwards
-abbrev pub written : ℕ → List ℕ → Slots → BurstCall
-written answer status s = record { answer = answer; status = statuses (length status) s; criteria = criteriaOf (length status) s }
+abbrev pub slotsLeft : ℕ → List ℕ → Slots → BurstCall
+slotsLeft answer status s = record { answer = answer; status = statuses (length status) s; criteria = criteriaOf (length status) s }
 
 -- choose and finish answer the slot
 abbrev pub doneCall : List ℕ → List ℕ → Outcome ℕ → Slots → BurstCall
-doneCall status criteria (given i) s = written i status s
-doneCall status criteria (refused n) s = unchanged (above16 + n) status criteria
+doneCall status criteria (given i) s = slotsLeft i status s
+doneCall status criteria (refused n) s = burstLeft (above16 + n) status criteria
 
 -- offer answers the slot, and the number of slots looked at in bits 31:20
 abbrev pub offerCall : List ℕ → List ℕ → OfferAnswered → Slots → BurstCall
-offerCall status criteria (takes i looked) s = written (i + 0x100000 * looked) status s
-offerCall status criteria (refusedAfter n looked) s = unchanged (above16 + n + 0x100000 * looked) status criteria
-offerCall status criteria (refusedAlone n) s = unchanged (above16 + n) status criteria
+offerCall status criteria (takes i looked) s = slotsLeft (i + 0x100000 * looked) status s
+offerCall status criteria (refusedAfter n looked) s = burstLeft (above16 + n + 0x100000 * looked) status criteria
+offerCall status criteria (refusedAlone n) s = burstLeft (above16 + n) status criteria
 
 -- refused as the lists are, and then as the slots are
 abbrev pub onSlots : List ℕ → List ℕ → BurstCall → BurstCall
-onSlots status criteria call = cond (eqb (listsRefused status criteria) 0) call (unchanged (listsRefused status criteria) status criteria)
+onSlots status criteria call = cond (eqb (listsRefused status criteria) 0) call (burstLeft (listsRefused status criteria) status criteria)
 
 unfoldable pub burstOffer : List ℕ → List ℕ → ℕ → BurstCall
 burstOffer status criteria x =

@@ -3,13 +3,14 @@ ghost use mathlib.Core.Path.{_≡_};
 ghost use Prim.Native.Nat.{_+_, _*_, _^_, _≤_, _<_};
 ghost use lib.ListN.{length};
 ghost use Rattle.bursts.specs.Slots.{doneOutcome, offeredOutcome, slotOutcome, offerAnswerOutcome};
-ghost use Rattle.dfb_bursts.specs.Bursts.{slotFrom, statusOf, criterionOf, areSlots, listsRefused, slotsOf, statuses, criteriaOf, BurstCall, doneCall, offerCall, burstOffer, burstChoose, burstFinish};
-use bursts::Answer;
+ghost use Rattle.dfb_bursts.specs.Bursts.{slotFrom, statusOf, criterionOf, areSlots, listsRefused, slotsOf, statuses, criteriaOf};
+ghost use Rattle.dfb_bursts.specs.Bursts.{burstLeft, doneCall, offerCall, burstOffer, burstChoose, burstFinish};
 use bursts::Done;
 use bursts::MOST_SLOTS;
 use bursts::OfferAnswer;
 use bursts::Offered;
 use bursts::Slot;
+use bursts::SlotAnswer;
 use bursts::SlotState;
 use bursts::Slots;
 use refusal::Refusal;
@@ -132,15 +133,15 @@ fn write_done(status: &mut [u8], criteria: &mut [u32], done: Done) -> u32
     requires { ⌜ length (now status) ≤ 32 ⌝ }
     requires { ⌜ length (now status) ≡ length (now criteria) ⌝ }
     requires { ⌜ doneCall (now status) (now criteria) (slotOutcome (done .answer)) (done .slots) .answer < 2 ^ 32 ⌝ }
-    ensures { λ r. ⌜ record { answer = r; status = now (status .exit); criteria = now (criteria .exit) } ≡ doneCall (now (status .entry)) (now (criteria .entry)) (slotOutcome (done .answer)) (done .slots) ⌝ }
+    ensures { λ r. ⌜ burstLeft r (now (status .exit)) (now (criteria .exit)) ≡ doneCall (now (status .entry)) (now (criteria .entry)) (slotOutcome (done .answer)) (done .slots) ⌝ }
 {
     let answer = done.answer;
     match answer {
-        Answer::Slot(i) => {
+        SlotAnswer::Slot(i) => {
             store_slots(status, criteria, done.slots);
             i as u32
         }
-        Answer::Refused(refusal) => dfb_refusals::above_16(refusal),
+        SlotAnswer::Refused(refusal) => dfb_refusals::above_16(refusal),
     }
 }
 
@@ -149,7 +150,7 @@ fn write_offered(status: &mut [u8], criteria: &mut [u32], offered: Offered) -> u
     requires { ⌜ length (now status) ≤ 32 ⌝ }
     requires { ⌜ length (now status) ≡ length (now criteria) ⌝ }
     requires { ⌜ offerCall (now status) (now criteria) (offerAnswerOutcome (offered .answer)) (offered .slots) .answer < 2 ^ 32 ⌝ }
-    ensures { λ r. ⌜ record { answer = r; status = now (status .exit); criteria = now (criteria .exit) } ≡ offerCall (now (status .entry)) (now (criteria .entry)) (offerAnswerOutcome (offered .answer)) (offered .slots) ⌝ }
+    ensures { λ r. ⌜ burstLeft r (now (status .exit)) (now (criteria .exit)) ≡ offerCall (now (status .entry)) (now (criteria .entry)) (offerAnswerOutcome (offered .answer)) (offered .slots) ⌝ }
 {
     let answer = offered.answer;
     match answer {
@@ -167,7 +168,7 @@ fn write_offered(status: &mut [u8], criteria: &mut [u32], offered: Offered) -> u
 // Offers a block; answers the slot that takes it. Refused by 2, then 3, then 25.
 #[no_mangle]
 pub extern "C" fn dfb_burst_offer(status: &mut [u8], criteria: &mut [u32], criterion: u32) -> u32
-    ensures { λ r. ⌜ record { answer = r; status = now (status .exit); criteria = now (criteria .exit) } ≡ burstOffer (now (status .entry)) (now (criteria .entry)) criterion ⌝ }
+    ensures { λ r. ⌜ burstLeft r (now (status .exit)) (now (criteria .exit)) ≡ burstOffer (now (status .entry)) (now (criteria .entry)) criterion ⌝ }
 {
     let refused = lists_refused(status, criteria);
     if refused != 0 {
@@ -180,7 +181,7 @@ pub extern "C" fn dfb_burst_offer(status: &mut [u8], criteria: &mut [u32], crite
 // Chooses the block to send; answers its slot. Refused by 2, then 3, then 27, then 26.
 #[no_mangle]
 pub extern "C" fn dfb_burst_choose(status: &mut [u8], criteria: &mut [u32]) -> u32
-    ensures { λ r. ⌜ record { answer = r; status = now (status .exit); criteria = now (criteria .exit) } ≡ burstChoose (now (status .entry)) (now (criteria .entry)) ⌝ }
+    ensures { λ r. ⌜ burstLeft r (now (status .exit)) (now (criteria .exit)) ≡ burstChoose (now (status .entry)) (now (criteria .entry)) ⌝ }
 {
     let refused = lists_refused(status, criteria);
     if refused != 0 {
@@ -193,7 +194,7 @@ pub extern "C" fn dfb_burst_choose(status: &mut [u8], criteria: &mut [u32]) -> u
 // Frees the slot that was sent; answers it. Refused by 2, then 3, then 28.
 #[no_mangle]
 pub extern "C" fn dfb_burst_finish(status: &mut [u8], criteria: &mut [u32]) -> u32
-    ensures { λ r. ⌜ record { answer = r; status = now (status .exit); criteria = now (criteria .exit) } ≡ burstFinish (now (status .entry)) (now (criteria .entry)) ⌝ }
+    ensures { λ r. ⌜ burstLeft r (now (status .exit)) (now (criteria .exit)) ≡ burstFinish (now (status .entry)) (now (criteria .entry)) ⌝ }
 {
     let refused = lists_refused(status, criteria);
     if refused != 0 {

@@ -12,14 +12,14 @@ use Rattle.refusal.proofs.Outcomes.{refused-given}
 use Rattle.interval.specs.declared.Interval.{Interval}
 use Rattle.interval.specs.Interval.{intervalOutcome}
 use Rattle.interval.proofs.Rules.{too-long}
-use Rattle.interval.proofs.Claims.{proved}
+use Rattle.interval.proofs.Claims.{interval-chosen}
 use Rattle.dfb_refusals.specs.Numbers.{above63}
 use Rattle.dfb_interval.specs.Interval.{intervalNumber, intervalCall}
 use Rattle.dfb_interval.specs.Claims.{IntervalApart, IntervalEnds}
 
 pub interval-small : (index : List ℕ) (bonus limit : ℕ) (i : Interval) → intervalOutcome index bonus limit ≡ given i → (i .first < 0x10000) × (i .last < 0x10000)
 interval-small index bonus limit i e =
-    let ok = proved index bonus limit i e in
+    let ok = interval-chosen index bonus limit i e in
     let long : length index ≤ 16000 =
     by-cases (ltb 16000 (length index))
     (λ t. absurd (refused-given 2 i (sym (too-long index bonus limit (ltb-true 16000 (length index) t)) ∙ e)))

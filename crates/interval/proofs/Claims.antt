@@ -13,9 +13,9 @@ use Rattle.refusal.specs.Outcome.{Outcome, given, refused}
 use Rattle.interval.specs.declared.Interval.{Interval}
 use Rattle.interval.specs.declared.Growing.{Growing}
 use Rattle.interval.specs.Interval.{allZero, startOf, blocks, growing, grown, intervalOf, intervalOutcome}
-use Rattle.interval.specs.Claims.{Chosen, Proved}
+use Rattle.interval.specs.Claims.{Chosen, IntervalChosen}
 use Rattle.interval.proofs.Start.{start-is}
-use Rattle.interval.proofs.Growth.{grown-fine, grown-rests}
+use Rattle.interval.proofs.Growth.{grown-fine, growth-ends}
 
 -- below the limit both sides are closed
 shut : (limit : ℕ) (g : Growing) → growing limit g ≡ false → blocks g < limit → (g .older ≡ false) × (g .newer ≡ false)
@@ -35,7 +35,7 @@ chosen index bonus limit h z =
     let s = start-is index z in
     let g = grown index bonus limit start (length index) in
     let f = grown-fine index bonus limit start (s .inside) h (length index) in
-    let rests = grown-rests index bonus limit start (s .inside) h in
+    let rests = growth-ends index bonus limit start (s .inside) h in
     record {
       start = (f .begins, f .ends);
       greatest = s .greatest;
@@ -50,9 +50,9 @@ chosen index bonus limit h z =
 refused-not : {A : Type 0} (n : ℕ) (i : Interval) → _≡_ {A = Outcome Interval} (refused n) (given i) → A
 refused-not n i e = let z : _≡_ {A = ℕ} 0 1 = cc in absurd (omega arith)
 
-pub proved : Proved
+pub interval-chosen : IntervalChosen
 unfolding intervalOutcome
-proved index bonus limit i e =
+interval-chosen index bonus limit i e =
     by-cases (ltb 16000 (length index)) (λ a. refused-not 2 i (rw a at e))
     (λ a.
     by-cases (eqb limit 0) (λ b. refused-not 29 i (simp (a, b) at e))

@@ -12,7 +12,7 @@ use lib.Dec.{ltb}
 use Rattle.lists.proofs.Choices.{by-cases, both, cond-at, cond-false}
 use Rattle.interval.specs.declared.Growing.{Growing}
 use Rattle.interval.specs.Interval.{criterion, joins, blocks, growing, tryOlder, tryNewer, alone, grown}
-use Rattle.interval.specs.Claims.{GrownRests}
+use Rattle.interval.specs.Claims.{GrowthEnds}
 
 second-fails : (a b : Bool) → a && b ≡ false → a ≡ true → b ≡ false
 second-fails true b e f = e
@@ -226,8 +226,8 @@ module _ (index : List ℕ) (bonus limit start : ℕ) where
   pub grown-stop : (k n : ℕ) → k ≤ n → growing limit (grown index bonus limit start k) ≡ false → grown index bonus limit start n ≡ grown index bonus limit start k
   grown-stop k n l e = let q : n ≡ k + (n - k) = omega arith in ap (grown index bonus limit start) q ∙ grown-more k (n - k) e
 
-pub grown-rests : GrownRests
-grown-rests index bonus limit start l h =
+pub growth-ends : GrowthEnds
+growth-ends index bonus limit start l h =
     by-cases (growing limit (grown index bonus limit start (length index)))
     (λ e. absurd (let k = growing-few index bonus limit start l h (length index) e in omega arith))
     (λ e. e)

@@ -9,8 +9,8 @@ use Rattle.interval.specs.declared.Interval.{Interval}
 use Rattle.interval.specs.Interval.{criterion, startOf, joins, growing, grown, intervalOutcome}
 
 -- after as many turns as there are blocks, both sides are closed or the limit is reached
-abbrev pub GrownRests : Type 0
-GrownRests =
+abbrev pub GrowthEnds : Type 0
+GrowthEnds =
     (index : List ℕ) (bonus limit start : ℕ) → start < length index → 0 < limit → growing limit (grown index bonus limit start (length index)) ≡ false
 
 pub record Chosen (index : List ℕ) (bonus limit : ℕ) (i : Interval) : Type 0 where
@@ -25,5 +25,5 @@ pub record Chosen (index : List ℕ) (bonus limit : ℕ) (i : Interval) : Type 0
   pub older : i .last - i .first + 1 < limit → 0 < i .first → joins index bonus (startOf index) (i .first - 1) ≡ false
   pub newer : i .last - i .first + 1 < limit → i .last + 1 < length index → joins index bonus (startOf index) (i .last + 1) ≡ false
 
-abbrev pub Proved : Type 0
-Proved = (index : List ℕ) (bonus limit : ℕ) (i : Interval) → intervalOutcome index bonus limit ≡ given i → Chosen index bonus limit i
+abbrev pub IntervalChosen : Type 0
+IntervalChosen = (index : List ℕ) (bonus limit : ℕ) (i : Interval) → intervalOutcome index bonus limit ≡ given i → Chosen index bonus limit i

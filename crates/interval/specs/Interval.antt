@@ -67,7 +67,7 @@ unfoldable pub grown : List ℕ → ℕ → ℕ → ℕ → ℕ → Growing
 grown index bonus limit start zero = alone start
 grown index bonus limit start (suc n) = tryNewer index bonus limit start (tryOlder index bonus limit start (grown index bonus limit start n))
 
--- As many turns as there are blocks are enough: after them the interval grows no more (`GrownRests` of Claims.antt).
+-- As many turns as there are blocks are enough: after them the interval grows no more (`GrowthEnds` of Claims.antt).
 unfoldable pub intervalOf : List ℕ → ℕ → ℕ → Interval
 intervalOf index bonus limit =
     record {

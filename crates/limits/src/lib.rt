@@ -73,7 +73,7 @@ fn rows_within(registers: Registers, bands: usize, limits: &[u64], totals: &[u64
         let slot = n * State::BANDS;
         within = within
             & row_within(
-                processors::enabled(registers, n),
+                settings::enabled(registers, n),
                 bands,
                 limits,
                 &totals[slot..slot + State::BANDS],

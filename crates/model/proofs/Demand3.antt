@@ -1,6 +1,6 @@
 -- Demand 3. Assumes nothing.
 use Prim.Native.Nat.{ℕ, _≤_, _<_}
-use mathlib.Core.Path.{_≡_, refl, sym, ap, _∙_, subst}
+use mathlib.Core.Path.{_≡_, sym, ap, _∙_, subst}
 use mathlib.Core.List.{List, [], _∷_, map}
 use native.Mathlib.Nat.{le-trans, mul-pos, le-div-iff-mul-le, div-mul-le-self}
 use Rattle.codes.specs.Code.{bandCode, bandValue}

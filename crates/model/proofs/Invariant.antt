@@ -1,5 +1,5 @@
 -- The invariant of demand 3: between calls the caller's memory represents what the reference model holds, and the model holds `Good`
--- numbers. Of the state it speaks of registers and phase alone. Assumes nothing.
+-- numbers. What soundness asks of the state beside its registers is one clause, `sound`. Assumes nothing.
 use Prim.Native.Nat.{ℕ, _+_, _-_, _*_, _^_, _≤_, _<_, zero-le}
 use mathlib.Core.Path.{_≡_, refl, sym, ap, _∙_, subst}
 use mathlib.Core.Bool.{Bool, true, false, cond, _&&_}
@@ -19,13 +19,13 @@ use Rattle.settings.specs.Settings.{bandsOf, enabledOf}
 use Rattle.registers.specs.declared.Registers.{Registers}
 use Rattle.registers.proofs.Theorems.{reset-sound}
 use Rattle.model.specs.Totals.{inUse, widthOf, slot, noTotals, added}
-use Rattle.model.specs.Board.{spectraHeld, slotLimit, totalsWithin, phaseSound, stateSound}
+use Rattle.model.specs.Board.{spectraHeld, slotLimit, totalsWithin, periodSound, stateSound}
 use Rattle.model.specs.Reference.{Reference, spectraTotal}
-use Rattle.model.specs.declared.State.{State}
 use Rattle.model.specs.Calls.{Memory, begin}
 use Rattle.model.specs.Demand.{Begun, resetMemory}
-use Rattle.model.proofs.Phases.{phase-zero, held-zero}
-use Rattle.model.proofs.Sound.{Sound, sound-parts}
+use Rattle.model.specs.Claims.{ResetBegun}
+use Rattle.model.proofs.Phases.{fresh-sound, held-zero}
+use Rattle.model.proofs.Sound.{sound-parts}
 use Rattle.model.proofs.SpectraTotals.{AllPowers, spectraTotal-le, spectraTotal-snoc}
 
 -- the totals of the spectra held, in the slots in use
@@ -35,12 +35,12 @@ heldTotals r sp = grid 7 112 (λ n b. cond (inUse r n b) (spectraTotal r sp n b)
 pub record Represents (m : Reference) (x : Memory) : Type 0 where
   pub registers : x .state .registers ≡ m .registers
   pub phase : x .state .phase ≡ m .phase
+  pub sound : periodSound (x .state) ≡ true
   pub totals : x .totals ≡ heldTotals (m .registers) (m .spectra)
 
 -- what holds of the model between calls
 pub record Good (m : Reference) : Type 0 where
   pub registers : registersSound (m .registers) ≡ true
-  pub phase : phaseSound (m .registers) (m .phase) ≡ true
   pub held : length (m .spectra) ≡ spectraHeld (m .registers) (m .phase)
   pub powers : AllPowers (m .spectra)
 
@@ -88,7 +88,7 @@ slot-within m g n b h l =
 pub memory-sound : (m : Reference) → Good m → (x : Memory) → Represents m x → stateSound (x .state) (x .totals) ≡ true
 unfolding stateSound totalsWithin
 memory-sound m g x h =
-    rw (h .registers, h .phase, h .totals, g .registers, g .phase)
+    rw (h .sound, h .registers, h .phase, h .totals, g .registers)
     (allTo-of 7 _ (λ n k. allTo-of 112 _ (λ b l. le-leb _ _ (slot-within m g n b k l))))
 
 pub memory-length : (m : Reference) (x : Memory) → Represents m x → length (x .totals) ≡ 784
@@ -107,18 +107,18 @@ begun-totals x h =
     (sound-parts (x .state) (x .totals) (h .sound) .totals n b k l)))
 
 pub begun-represents : (x : Memory) → Begun x → Represents (begin x) x
-begun-represents x h = record { registers = refl; phase = h .phase; totals = begun-totals x h }
+begun-represents x h = record { registers = refl; phase = h .phase; sound = sound-parts (x .state) (x .totals) (h .sound) .period; totals = begun-totals x h }
 
 -- sound registers at phase 0 with no spectra are good
 pub fresh-good : (r : Registers) → registersSound r ≡ true → Good (record { registers = r; phase = 0; spectra = [] })
-fresh-good r h = record { registers = h; phase = phase-zero r; held = sym (held-zero r); powers = tt }
+fresh-good r h = record { registers = h; held = sym (held-zero r); powers = tt }
 
 pub begun-good : (x : Memory) → Begun x → Good (begin x)
 begun-good x h = fresh-good (x .state .registers) (sound-parts (x .state) (x .totals) (h .sound) .registers)
 
 -- the board at reset is such a start
-pub reset-begun : Begun resetMemory
+pub reset-begun : ResetBegun
 reset-begun =
     let fresh = fresh-good atReset reset-sound in
-    let is : Represents (begin resetMemory) resetMemory = record { registers = refl; phase = refl; totals = held-no atReset } in
+    let is : Represents (begin resetMemory) resetMemory = record { registers = refl; phase = refl; sound = fresh-sound atReset; totals = held-no atReset } in
     record { totals-length = memory-length _ resetMemory is; sound = memory-sound _ fresh resetMemory is; phase = refl }

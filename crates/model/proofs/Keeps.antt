@@ -15,10 +15,10 @@ use Rattle.registers.proofs.Theorems.{write-sound}
 use Rattle.model.specs.Reply.{Reply, refused, stores, idle, collected, waiting, reported}
 use Rattle.model.specs.Report.{meansWithin}
 use Rattle.model.specs.Board.{spectraHeld}
-use Rattle.model.specs.Reference.{Reference, Input, Entry, onward, entryRunning, entry, spectraTotal}
+use Rattle.model.specs.Reference.{Reference, Input, Entry, afterTick, entryRunning, entry, spectraTotal}
 use Rattle.model.specs.Calls.{Powers, Call, command, tick, Typed, inputOf, passedLength, answerOf}
 use Rattle.model.proofs.SpectraTotals.{AllPowers, powers-snoc}
-use Rattle.model.proofs.Phases.{byBoardCases, entry-cases, nextPhase, phase-next, held-collecting, held-reporting, next-collecting, next-other}
+use Rattle.model.proofs.Phases.{byBoardCases, entry-cases, nextPhase, held-collecting, held-reporting, next-collecting, next-other}
 use Rattle.model.proofs.Invariant.{Good, fresh-good}
 use Rattle.model.proofs.Reports.{GoodReport, model-accepts}
 
@@ -47,9 +47,8 @@ module _ (m : Reference) (g : Good m) where
         powers = powers-snoc (m .spectra) ps (g .powers) h;
       }
 
-  onward-good : (sp : List (List ℕ)) → runningOf r ≡ true → length sp ≡ spectraHeld r (nextPhase r (m .phase)) → AllPowers sp → Good (onward m sp)
-  onward-good sp run h a =
-      record { registers = g .registers; phase = phase-next r (m .phase) run (g .phase); held = h; powers = a }
+  next-good : (sp : List (List ℕ)) → length sp ≡ spectraHeld r (nextPhase r (m .phase)) → AllPowers sp → Good (afterTick m sp)
+  next-good sp h a = record { registers = g .registers; held = h; powers = a }
 
   keeps-command : (id v n : ℕ) → GoodEntry r (entry m (Input.command id v n))
   unfolding entry
@@ -78,16 +77,16 @@ module _ (m : Reference) (g : Good m) where
       by-cases : runningOf r ≡ true → GoodEntry r (byBoardCases m (m .spectra ++ (ps ∷ [])))
       by-cases run =
           cond-at (GoodEntry r) (ltb (m .phase) (averagedSpectra r - 1))
-          (λ c. record { reply = tt; next = onward-good _ run (one-more ps run c) (powers-snoc (m .spectra) ps (g .powers) h) })
-          (λ c. let rest = onward-good [] run (sym (next-other r run (m .phase) c)) tt in
+          (λ c. record { reply = tt; next = next-good _ (one-more ps run c) (powers-snoc (m .spectra) ps (g .powers) h) })
+          (λ c. let rest = next-good [] (sym (next-other r run (m .phase) c)) tt in
           cond-at (GoodEntry r) (eqb (m .phase) (averagedSpectra r - 1))
           (λ q. cond-at (GoodEntry r) (not (meansWithin r (spectraTotal r (m .spectra ++ (ps ∷ [])))))
           (λ e. absurd (true≢false (sym e ∙ ap not (model-accepts r (m .spectra ++ (ps ∷ [])) (report-good run ps h q)))))
           (λ e. record { reply = report-good run ps h q; next = rest }))
           (λ q. record { reply = tt; next = rest }))
 
-      runs : runningOf r ≡ true → GoodEntry r (entryRunning m (m .spectra ++ (ps ∷ [])))
-      runs run = subst (GoodEntry r) (entry-cases m (m .spectra ++ (ps ∷ []))) (by-cases run)
+      runs : runningOf r ≡ true → GoodEntry r (entryRunning m ps)
+      runs run = subst (GoodEntry r) (entry-cases m ps) (by-cases run)
 
   pub keeps : (c : Call) → Typed c → GoodEntry r (entry m (inputOf c))
   keeps (command id v t) h = keeps-command id v (passedLength t)

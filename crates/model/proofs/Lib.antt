@@ -2,9 +2,11 @@ pub mod Phases
 pub mod SpectraTotals
 pub mod Sound
 pub mod Reports
+pub mod Legal
 pub mod Invariant
 pub mod Keeps
 pub mod Simulation
 pub mod Demand3
+pub mod Commands
 pub mod Ticks
 pub mod Witness

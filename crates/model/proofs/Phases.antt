@@ -1,45 +1,46 @@
 -- The phase of a period, and how many spectra the totals hold at it. Assumes nothing.
 use Prim.Native.Nat.{ℕ, _+_, _-_, _≤_, _<_}
-use mathlib.Core.Path.{_≡_, refl, sym, ap, _∙_, subst}
+use mathlib.Core.Path.{_≡_, refl, sym, subst}
 use mathlib.Core.Bool.{true, false, cond, _&&_}
-use mathlib.Core.List.{List, []}
+use mathlib.Core.List.{List, [], _∷_, _++_}
 use native.Mathlib.Omega.{arith}
-use lib.Dec.{leb, ltb, eqb, lit≤}
-use borrow.Author.Tests.{ltb-true, ltb-false, eqb-true, eqb-false, lt-ltb, le-ltb, lt-leb, le-leb, ne-eqb}
-use Rattle.lists.proofs.Choices.{by-cases, both, cond-at, cond-same, cond-true, cond-false}
+use lib.Dec.{ltb, eqb, lit≤}
+use borrow.Author.Tests.{ltb-true, ltb-false, eqb-true, eqb-false, lt-ltb, le-ltb, ne-eqb}
+use Rattle.lists.proofs.Choices.{by-cases, both, cond-at, cond-same, cond-false}
 use Rattle.settings.specs.Settings.{averagedSpectra, periodTicks, runningOf}
 use Rattle.registers.specs.declared.Registers.{Registers}
 use Rattle.settings.proofs.Settings.{averaged-pos, averaged-le, period-pos, running-le}
 use Rattle.model.specs.Reply.{collected, waiting}
-use Rattle.model.specs.Board.{phaseSound, spectraHeld}
-use Rattle.model.specs.Reference.{Reference, Entry, onward, entryReport, entryRunning}
+use Rattle.model.specs.declared.State.{State}
+use Rattle.model.specs.Board.{phaseSound, periodSound, atNextPhase, spectraHeld}
+use Rattle.model.specs.Reference.{Reference, Entry, afterTick, entryReport, entryRunning}
 
 -- the book's three cases of a tick when running are the board's
 running-cases : {A : Type 0} (p n : ℕ) (collects reports waits : A) → 0 < n →
-    cond (leb n p) waits (cond (eqb p (n - 1)) reports collects) ≡ cond (ltb p (n - 1)) collects (cond (eqb p (n - 1)) reports waits)
+    cond (ltb p n) (cond (eqb p (n - 1)) reports collects) waits ≡ cond (ltb p (n - 1)) collects (cond (eqb p (n - 1)) reports waits)
 running-cases p n collects reports waits h =
     by-cases (ltb p (n - 1))
-    (λ e. let l = ltb-true p (n - 1) e in rw (e, lt-leb n p (omega arith), ne-eqb p (n - 1) (λ q. omega arith)))
+    (λ e. let l = ltb-true p (n - 1) e in rw (e, lt-ltb p n (omega arith), ne-eqb p (n - 1) (λ q. omega arith)))
     (λ e. let l = ltb-false p (n - 1) e in
     by-cases (eqb p (n - 1))
-    (λ q. let s = eqb-true p (n - 1) q in rw (e, q, lt-leb n p (omega arith)))
-    (λ q. let d = eqb-false p (n - 1) q in rw (e, q, le-leb n p (omega arith))))
+    (λ q. let s = eqb-true p (n - 1) q in rw (e, q, lt-ltb p n (omega arith)))
+    (λ q. let d = eqb-false p (n - 1) q in rw (e, q, le-ltb p n (omega arith))))
 
 abbrev pub byBoardCases : Reference → List (List ℕ) → Entry
-byBoardCases m spectra =
-    cond (ltb (m .phase) (averagedSpectra (m .registers) - 1)) (record { reply = collected; next = onward m spectra })
-    (cond (eqb (m .phase) (averagedSpectra (m .registers) - 1)) (entryReport m spectra)
-    (record { reply = waiting; next = onward m [] }))
+byBoardCases m kept =
+    cond (ltb (m .phase) (averagedSpectra (m .registers) - 1)) (record { reply = collected; next = afterTick m kept })
+    (cond (eqb (m .phase) (averagedSpectra (m .registers) - 1)) (entryReport m kept)
+    (record { reply = waiting; next = afterTick m [] }))
 
-pub entry-cases : (m : Reference) (spectra : List (List ℕ)) → byBoardCases m spectra ≡ entryRunning m spectra
-entry-cases m spectra = sym (running-cases (m .phase) (averagedSpectra (m .registers)) _ _ _ (averaged-pos (m .registers)))
+pub entry-cases : (m : Reference) (powers : List ℕ) → byBoardCases m (m .spectra ++ (powers ∷ [])) ≡ entryRunning m powers
+entry-cases m powers = sym (running-cases (m .phase) (averagedSpectra (m .registers)) _ _ _ (averaged-pos (m .registers)))
 
 -- the phase after p
 abbrev pub nextPhase : Registers → ℕ → ℕ
 nextPhase r p = cond (eqb p (periodTicks r - 1)) 0 (p + 1)
 
 module _ (r : Registers) where
-  pub phase-zero : phaseSound r 0 ≡ true
+  phase-zero : phaseSound r 0 ≡ true
   unfolding phaseSound
   phase-zero = cond-at (λ t. t ≡ true) (runningOf r) (λ e. lt-ltb 0 (periodTicks r) (period-pos r)) (λ e. refl)
 
@@ -52,15 +53,11 @@ module _ (r : Registers) where
       (λ e. omega (arith, ltb-true p (averagedSpectra r) (both (runningOf r) (ltb p (averagedSpectra r)) e .1), averaged-le r)) (λ e. lit≤ tt)
 
   module _ (p : ℕ) where
-    pub phase-rest : runningOf r ≡ false → phaseSound r p ≡ true → p ≡ 0
-    unfolding phaseSound
-    phase-rest e h = eqb-true p 0 (rw e at h)
-
-    pub phase-lt : runningOf r ≡ true → phaseSound r p ≡ true → p < periodTicks r
+    phase-lt : runningOf r ≡ true → phaseSound r p ≡ true → p < periodTicks r
     unfolding phaseSound
     phase-lt e h = ltb-true p (periodTicks r) (rw e at h)
 
-    pub phase-next : runningOf r ≡ true → phaseSound r p ≡ true → phaseSound r (nextPhase r p) ≡ true
+    phase-next : runningOf r ≡ true → phaseSound r p ≡ true → phaseSound r (nextPhase r p) ≡ true
     unfolding phaseSound
     phase-next e h =
         let l : p < periodTicks r = phase-lt e h in
@@ -68,6 +65,11 @@ module _ (r : Registers) where
         (cond-at (λ q. ltb q (periodTicks r) ≡ true) (eqb p (periodTicks r - 1))
         (λ z. lt-ltb 0 (periodTicks r) (omega arith))
         (λ n. let d : ¬ (p ≡ periodTicks r - 1) = eqb-false p (periodTicks r - 1) n in lt-ltb (p + 1) (periodTicks r) (omega arith)))
+
+  -- a state at phase 0 is sound beside its registers, and so is a running one at its next phase
+  pub fresh-sound : periodSound (record { registers = r; phase = 0 }) ≡ true
+  unfolding periodSound
+  fresh-sound = phase-zero
 
   -- the spectra held at p of a running board
   module _ (run : runningOf r ≡ true) (p : ℕ) where
@@ -102,3 +104,11 @@ module _ (r : Registers) where
   next-other run p c =
       cond-at (λ q. spectraHeld r q ≡ 0) (eqb p (periodTicks r - 1)) (λ e. held-zero)
       (λ e. held-none run (p + 1) (omega (arith, ltb-false p (averagedSpectra r - 1) c)))
+
+pub period-lt : (s : State) → runningOf (s .registers) ≡ true → periodSound s ≡ true → s .phase < periodTicks (s .registers)
+unfolding periodSound
+period-lt s run h = phase-lt (s .registers) (s .phase) run h
+
+pub next-sound : (s : State) → runningOf (s .registers) ≡ true → periodSound s ≡ true → periodSound (atNextPhase s) ≡ true
+unfolding periodSound
+next-sound s run h = phase-next (s .registers) (s .phase) run h

@@ -4,7 +4,7 @@ use mathlib.Core.Path.{_≡_, refl, sym, ap, _∙_, subst}
 use mathlib.Core.Bool.{Bool, true, false, cond, not, _&&_, _||_, and-eq-true-iff}
 use mathlib.Core.List.{List, [], _++_}
 use native.Mathlib.Omega.{arith}
-use native.Mathlib.Nat.{div-le-of-le-mul, mul-assoc, one-mul, zero-mul}
+use native.Mathlib.Nat.{mul-assoc, one-mul, zero-mul}
 use lib.ListN.{length, getD, drop}
 use lib.Dec.{ltb, eqb, lit<}
 use borrow.Author.Tests.{lt-ltb, le-leb, eqb-true, eqb-false}
@@ -19,7 +19,7 @@ use Rattle.settings.proofs.Settings.{bands-le, bands-even}
 use Rattle.model.specs.Totals.{slot}
 use Rattle.model.specs.Report.{divisor, mean, specWord, processorBytes, reportBytes, meansWithin}
 use Rattle.model.specs.Reference.{spectraTotal}
-use Rattle.model.specs.Demand.{ReportedBand, wordOf, byteInWord, printedValue}
+use Rattle.model.specs.Demand.{ReportedBand, wordIndex, byteInWord, printedValue}
 use Rattle.model.proofs.SpectraTotals.{AllPowers, spectraTotal-le}
 use Rattle.model.proofs.Invariant.{heldTotals, slot-of-held}
 
@@ -107,13 +107,13 @@ module _ (r : Registers) (t : ℕ → ℕ → ℕ) where
   processor-on n on = cond-true (enabledOf r n) _ [] on
 
   in-report : (n b : ℕ) → ReportedBand r n b → (z : List ℕ) →
-      getD (reportBytes r t ++ z) (3 * wordOf r n b + byteInWord b) 0 ≡ bandCode (mean r t n b)
+      getD (reportBytes r t ++ z) (3 * wordIndex r n b + byteInWord b) 0 ≡ bandCode (mean r t n b)
   unfolding reportBytes
   in-report n b s z =
       let l : b / 2 < words = omega (arith, s .band, bands-even r) in
       let e : length (processorBytes r t n) ≡ words * 3 = ap length (processor-on n (s .enabled)) ∙ length-words (mean r t n) words in
       let k : b / 2 * 3 + byteInWord b < length (processorBytes r t n) = omega (arith, byte-lt b) in
-      let at : 3 * wordOf r n b + byteInWord b ≡ length (concatTo n (processorBytes r t)) + (b / 2 * 3 + byteInWord b) =
+      let at : 3 * wordIndex r n b + byteInWord b ≡ length (concatTo n (processorBytes r t)) + (b / 2 * 3 + byteInWord b) =
       omega (arith, length-before n, mul-assoc (enabledBefore r n) words 3) in
       rw (at, getD-concatTo-then 7 (processorBytes r t) z 0 n (s .processor) (b / 2 * 3 + byteInWord b) k, processor-on n (s .enabled))
       (in-processor (mean r t n) b words l)

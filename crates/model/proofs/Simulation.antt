@@ -1,24 +1,24 @@
 -- A call on the board follows the reference model's entry for it. Assumes nothing.
 use Prim.Native.Nat.{ℕ, _-_}
 use mathlib.Core.Path.{_≡_, refl, sym, ap, ap₂, subst, _∙_}
-use mathlib.Core.Bool.{Bool, true, false, not, _&&_, and-false}
+use mathlib.Core.Bool.{true, not, and-false}
 use mathlib.Core.List.{List, [], _∷_, _++_}
 use native.Mathlib.Omega.{arith}
 use lib.ListN.{length}
-use lib.Dec.{leb, ltb, eqb}
+use lib.Dec.{ltb, eqb}
 use borrow.Author.Tests.{ne-eqb, not-false}
 use Rattle.lists.specs.Tables.{overwrite}
 use Rattle.lists.proofs.Choices.{cond-related}
 use Rattle.registers.specs.Access.{isId, storedTo}
 use Rattle.settings.specs.Settings.{averagedSpectra, runningOf, specWords}
 use Rattle.registers.specs.declared.Registers.{Registers}
-use Rattle.model.specs.Reply.{waiting, reported}
+use Rattle.model.specs.Reply.{reported}
 use Rattle.model.specs.Totals.{slot, added}
 use Rattle.model.specs.Report.{reportBytes, meansWithin}
-use Rattle.model.specs.Board.{CommandOutcome, TickOutcome, lengthsFit, reportOutcome, runningOutcome, commandOutcome, tickOutcome}
-use Rattle.model.specs.Reference.{Reference, Entry, entryReport, entryRunning, entry, spectraTotal}
+use Rattle.model.specs.Board.{CommandOutcome, TickOutcome, atNextPhase, lengthsFit, reportOutcome, runningOutcome, commandOutcome, tickOutcome}
+use Rattle.model.specs.Reference.{Reference, Entry, afterTick, entryReport, entryRunning, entry, spectraTotal}
 use Rattle.model.specs.Calls.{Powers, TotalsPassed, current, wrong, Memory, Call, command, tick, Typed, Performed, performCommand, performTick, perform, inputOf, outOf, answerOf, writtenBy}
-use Rattle.model.proofs.Phases.{byBoardCases, entry-cases, nextPhase, held-waiting}
+use Rattle.model.proofs.Phases.{byBoardCases, entry-cases, nextPhase, held-waiting, fresh-sound, next-sound}
 use Rattle.model.proofs.Invariant.{heldTotals, Represents, Good, memory-sound, memory-length, held-no, held-added}
 use Rattle.model.proofs.Reports.{GoodReport, slot-held, report-ext, model-accepts, board-accepts}
 use Rattle.model.proofs.Keeps.{report-good}
@@ -39,7 +39,7 @@ module _ (m : Reference) (g : Good m) (x : Memory) (h : Represents m x) where
 
   -- the call changes nothing
   unchanged : Represents m (record { state = x .state; totals = x .totals })
-  unchanged = record { registers = h .registers; phase = h .phase; totals = h .totals }
+  unchanged = record { registers = h .registers; phase = h .phase; sound = h .sound; totals = h .totals }
 
   -- ---- commands
 
@@ -55,7 +55,7 @@ module _ (m : Reference) (g : Good m) (x : Memory) (h : Represents m x) where
       (λ e. record {
         answer = refl;
         out = refl;
-        next = record { registers = ap (λ k. storedTo k id v) (h .registers); phase = refl; totals = held-no _ };
+        next = record { registers = ap (λ k. storedTo k id v) (h .registers); phase = refl; sound = fresh-sound _; totals = held-no _ };
       }))
   follows-command id v (wrong l d) = rw (ne-eqb (length l) 784 d) (record { answer = refl; out = refl; next = unchanged })
 
@@ -64,8 +64,16 @@ module _ (m : Reference) (g : Good m) (x : Memory) (h : Represents m x) where
   abbrev FollowsTick : List ℕ → TickOutcome → Entry → Type 0
   FollowsTick out o e = Follows r out e (performTick x current o)
 
-  phase-follows : nextPhase (x .state .registers) (x .state .phase) ≡ nextPhase r (m .phase)
-  phase-follows = ap₂ nextPhase (h .registers) (h .phase)
+  -- a tick of a running board that leaves the totals of these spectra
+  ticked : runningOf r ≡ true → (sp : List (List ℕ)) (totals : List ℕ) → totals ≡ heldTotals r sp →
+      Represents (afterTick m sp) (record { state = atNextPhase (x .state); totals = totals })
+  ticked run sp totals e =
+      record {
+        registers = h .registers;
+        phase = ap₂ nextPhase (h .registers) (h .phase);
+        sound = next-sound (x .state) (ap runningOf (h .registers) ∙ run) (h .sound);
+        totals = e;
+      }
 
   module _ (run : runningOf r ≡ true) (ps out : List ℕ) (typed : Powers ps) where
     abbrev sp : List (List ℕ)
@@ -88,7 +96,7 @@ module _ (m : Reference) (g : Good m) (x : Memory) (h : Represents m x) where
         (λ e. record {
           answer = ap (λ q. reported (specWords q)) (h .registers);
           out = ap (λ l. overwrite l out) (bytes k);
-          next = record { registers = h .registers; phase = phase-follows; totals = held-no r };
+          next = ticked run [] _ (held-no r);
         })
 
     by-cases : FollowsTick out (runningOutcome (x .state) (x .totals) (added (x .state .registers) (x .totals) ps) out) (byBoardCases m sp)
@@ -96,22 +104,18 @@ module _ (m : Reference) (g : Good m) (x : Memory) (h : Represents m x) where
     by-cases =
         cond-related (FollowsTick out) (ltb (x .state .phase) (averagedSpectra (x .state .registers) - 1)) (ltb (m .phase) (averagedSpectra r - 1))
         (ap₂ (λ q p. ltb p (averagedSpectra q - 1)) (h .registers) (h .phase))
-        (λ c. record { answer = refl; out = refl; next = record { registers = h .registers; phase = phase-follows; totals = sums } })
+        (λ c. record { answer = refl; out = refl; next = ticked run sp _ sums })
         (λ c. cond-related (FollowsTick out) (eqb (x .state .phase) (averagedSpectra (x .state .registers) - 1)) (eqb (m .phase) (averagedSpectra r - 1))
         (ap₂ (λ q p. eqb p (averagedSpectra q - 1)) (h .registers) (h .phase))
         (λ q. follows-report (report-good m g run ps typed q))
         (λ q. record {
           answer = refl;
           out = refl;
-          next = record {
-            registers = h .registers;
-            phase = phase-follows;
-            totals = h .totals ∙ ap (heldTotals r) (no-length (m .spectra) (g .held ∙ held-waiting r run (m .phase) c q));
-          };
+          next = ticked run [] _ (h .totals ∙ ap (heldTotals r) (no-length (m .spectra) (g .held ∙ held-waiting r run (m .phase) c q)));
         }))
 
-    follows-running : FollowsTick out (runningOutcome (x .state) (x .totals) (added (x .state .registers) (x .totals) ps) out) (entryRunning m sp)
-    follows-running = subst (FollowsTick out _) (entry-cases m sp) by-cases
+    follows-running : FollowsTick out (runningOutcome (x .state) (x .totals) (added (x .state .registers) (x .totals) ps) out) (entryRunning m ps)
+    follows-running = subst (FollowsTick out _) (entry-cases m ps) by-cases
 
   follows-tick : (ps out : List ℕ) (t : TotalsPassed) → Powers ps → Follows r out (entry m (inputOf (tick ps t out))) (perform x (tick ps t out))
   unfolding entry tickOutcome

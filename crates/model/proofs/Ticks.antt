@@ -1,31 +1,28 @@
--- One call, from any state: rows of disabled processors do not matter, only a report writes output, an accepted command changes one
--- register; and from a sound state refusal 13 never comes. Assumes nothing.
+-- One tick, from any state: rows of disabled processors do not matter, and only a report writes output; from a sound state refusal 13
+-- never comes. Assumes nothing.
 use Prim.Native.Nat.{ℕ, _+_, _*_, _-_, _^_, _≤_, _<_}
-use mathlib.Core.Path.{_≡_, refl, sym, ap, _∙_}
-use mathlib.Core.Bool.{true, cond, not, _&&_}
+use mathlib.Core.Path.{_≡_, refl, ap}
+use mathlib.Core.Bool.{true, cond, not}
 use mathlib.Core.List.{List}
 use mathlib.Core.Logic.{_⊎_, inl, inr}
 use native.Mathlib.Omega.{arith}
 use native.Mathlib.Nat.{add-le-add, add-mul, one-mul}
 use lib.ListN.{length}
-use lib.Seq.{getD-set-other}
 use lib.Dec.{ltb, eqb}
-use borrow.Author.Tests.{lt-ltb, not-false}
+use borrow.Author.Tests.{lt-ltb}
 use Rattle.lists.proofs.Choices.{both, cond-at, cond-both}
 use Rattle.lists.proofs.Tables.{getD-grid, grid-ext}
 use Rattle.bands.specs.Band.{sizeExponent}
 use Rattle.bands.proofs.Power.{bandSum-ext}
-use Rattle.registers.specs.Access.{isId, register}
-use Rattle.registers.specs.Store.{stored}
 use Rattle.settings.specs.Settings.{settingOf, bandsOf, averagedSpectra, enabledOf, runningOf}
 use Rattle.registers.specs.declared.Registers.{Registers}
 use Rattle.settings.proofs.Settings.{bands-le}
-use Rattle.model.specs.Reply.{Reply, refused, stores, idle, collected, waiting, reported}
 use Rattle.model.specs.Totals.{inUse, widthOf, power, bandPower, slot, added}
-use Rattle.model.specs.Report.{divisor, meansWithin}
-use Rattle.model.specs.Board.{spectraHeld, stateSound, lengthsFit, CommandOutcome, commandOutcome, TickOutcome, reportOutcome, runningOutcome, tickOutcome}
+use Rattle.model.specs.Report.{meansWithin}
+use Rattle.model.specs.Board.{spectraHeld, stateSound, lengthsFit, TickOutcome, reportOutcome, runningOutcome, tickOutcome}
 use Rattle.model.specs.Calls.{Powers}
 use Rattle.model.specs.Demand.{ReportedBand}
+use Rattle.model.specs.Claims.{DisabledRows, IsReport, OnlyReportsWrite, Never13}
 use Rattle.model.specs.declared.State.{State}
 use Rattle.model.proofs.SpectraTotals.{bandPower-le}
 use Rattle.model.proofs.Phases.{held-reporting}
@@ -43,25 +40,13 @@ added-same r ps qs same totals =
     bandSum-ext (sizeExponent (settingOf r)) b (power ps n) (power qs n)
     (λ k m. same n k h (both (enabledOf r n) (ltb b (bandsOf r)) u .0) m)) (λ u. refl)))
 
-pub disabled-rows : (s : State) (totals ps qs out : List ℕ) → length ps ≡ length qs →
-    ((n k : ℕ) → n < 7 → enabledOf (s .registers) n ≡ true → k < 1024 → power ps n k ≡ power qs n k) →
-    tickOutcome s totals ps out ≡ tickOutcome s totals qs out
+pub disabled-rows : DisabledRows
 unfolding tickOutcome
 disabled-rows s totals ps qs out e same = rw (e, added-same (s .registers) ps qs same totals)
 
 -- ---- 01: only a report writes output
 
--- the answer is a report
-abbrev pub IsReport : Reply ℕ → Type 0
-IsReport (refused n) = ⊥
-IsReport (stores v) = ⊥
-IsReport idle = ⊥
-IsReport collected = ⊥
-IsReport waiting = ⊥
-IsReport (reported n) = Unit {0}
-
-pub only-reports-write : (s : State) (totals ps out : List ℕ) →
-    IsReport (tickOutcome s totals ps out .answer) ⊎ (tickOutcome s totals ps out .out ≡ out)
+pub only-reports-write : OnlyReportsWrite
 unfolding tickOutcome runningOutcome reportOutcome
 only-reports-write s totals ps out =
     cond-at Writes (not (lengthsFit (length ps) (length totals) (length out))) (λ e. inr refl) (λ e.
@@ -74,19 +59,6 @@ only-reports-write s totals ps out =
   where
     Writes : TickOutcome → Type 0
     Writes o = IsReport (o .answer) ⊎ (o .out ≡ out)
-
--- ---- 01: an accepted command changes one register only
-
-pub one-register : (s : State) (totals : List ℕ) (id v n : ℕ) → ¬ (n ≡ id - 0x30) →
-    register (commandOutcome s totals id v .state .registers) n ≡ register (s .registers) n
-unfolding commandOutcome
-one-register s totals id v n other =
-    cond-at Same (not (eqb (length totals) 784)) (λ e. refl) (λ e.
-    cond-at Same (not (stateSound s totals)) (λ e. refl) (λ e.
-    cond-at Same (not (isId id)) (λ e. refl) (λ e. getD-set-other (s .registers .value) (id - 0x30) n (stored id v) 0 other)))
-  where
-    Same : CommandOutcome → Type 0
-    Same o = register (o .state .registers) n ≡ register (s .registers) n
 
 -- ---- from a sound state no report meets a band mean over 2 ^ 32 - 1
 
@@ -106,7 +78,6 @@ slot-le s totals ps h k n b u =
     rw (getD-grid {A = ℕ} 7 112 (λ n b. slot totals n b + cond (inUse r n b) (bandPower r ps n b) 0) 0 n b (u .processor) l, in-use r n b u, add-mul p 1 w, one-mul w, add-mul (p * w) w (2 ^ 32 - 1))
     (add-le-add a (bandPower-le r n b (u .band) ps k))
 
-pub never-13 : (s : State) (totals ps : List ℕ) → stateSound s totals ≡ true → Powers ps → runningOf (s .registers) ≡ true →
-    eqb (s .phase) (averagedSpectra (s .registers) - 1) ≡ true → meansWithin (s .registers) (slot (added (s .registers) totals ps)) ≡ true
+pub never-13 : Never13
 never-13 s totals ps h k run e =
     means-within (s .registers) _ (λ n b u. rw (held-reporting (s .registers) run (s .phase) e) at (slot-le s totals ps (sound-parts s totals h) k n b u))

@@ -1,6 +1,6 @@
 -- Reports do come: from reset, after 0x0020 to 0x30 (processor 1 enabled, 36 bands, N = C = 1), a tick reports. Assumes nothing.
 use Prim.Native.Nat.{ℕ, zero, suc, _<_, _^_}
-use mathlib.Core.Path.{_≡_, refl, sym, ap, _∙_, subst}
+use mathlib.Core.Path.{_≡_, refl, sym, subst}
 use mathlib.Core.List.{List, [], _∷_}
 use lib.ListN.{length, getD, replicate, length-replicate}
 use lib.Dec.{lit<}
@@ -10,13 +10,14 @@ use Rattle.registers.specs.Access.{atReset, storedTo}
 use Rattle.settings.specs.Settings.{averagedSpectra, periodTicks, enabledOf, runningOf}
 use Rattle.registers.specs.declared.Registers.{Registers}
 use Rattle.model.specs.Reference.{entry}
-use Rattle.model.specs.Calls.{Powers, Call, command, tick, current}
+use Rattle.model.specs.Calls.{Powers, command, tick, current}
 use Rattle.model.specs.Demand.{resetMemory, Run, Reports}
+use Rattle.model.specs.Claims.{SomeListReports}
 use Rattle.model.proofs.Invariant.{reset-begun}
 use Rattle.model.proofs.Reports.{GoodReport, model-accepts}
 
 -- a tick whose powers are all 0, and an output for it
-pub powers : List ℕ
+powers : List ℕ
 powers = replicate 7168 0
 
 output : List ℕ
@@ -39,7 +40,7 @@ powers-typed i = subst (λ (x : ℕ). x < 2 ^ 32) (sym (zeros 7168 i)) (lit< tt)
     zeros (suc n) zero = refl
     zeros (suc n) (suc i) = zeros n i
 
-pub run : Run
+run : Run
 run =
     record {
       start = resetMemory;
@@ -58,6 +59,9 @@ good : GoodReport registers (powers ∷ [])
 unfolding registers averagedSpectra highStored lowStored storedAt
 good = record { count = refl; powers = (powers-typed, tt) }
 
-pub some-list-reports : Reports run (powers ∷ [])
+reports : Reports run (powers ∷ [])
 unfolding entry run registers averagedSpectra periodTicks runningOf enabledOf sumTo highStored lowStored storedAt
-some-list-reports = rw (powers-length, output-length, model-accepts registers (powers ∷ []) good)
+reports = rw (powers-length, output-length, model-accepts registers (powers ∷ []) good)
+
+pub some-list-reports : SomeListReports
+some-list-reports = (run, powers ∷ [], reports)

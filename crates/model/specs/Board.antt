@@ -8,16 +8,19 @@ use lib.Dec.{leb, ltb, eqb}
 use Rattle.lists.specs.Sums.{allTo}
 use Rattle.lists.specs.Tables.{overwrite}
 use Rattle.refusal.specs.Number.{numberOf}
+use Rattle.refusal.specs.Outcome.{Outcome, given}
+use Rattle.refusal.specs.Outcome as outcome
 use Rattle.registers.specs.Store.{stored}
-use Rattle.registers.specs.Access.{isId, atReset, storedTo, registersSound}
+use Rattle.registers.specs.Access.{isId, atReset, storedTo, registersSound, answerOutcome}
 use Rattle.settings.specs.Settings.{averagedSpectra, periodTicks, runningOf, specWords}
 use Rattle.registers.specs.declared.Registers.{Registers}
-use Rattle.registers.specs.declared.Answer.{Answer}
 use Rattle.model.specs.Reply.{Reply, refused, stores, idle, collected, waiting, reported}
 use Rattle.model.specs.Totals.{inUse, widthOf, slot, noTotals, added}
 use Rattle.model.specs.Report.{reportBytes, meansWithin}
 use Rattle.model.specs.declared.State.{State}
 use Rattle.model.specs.declared.TickAnswer.{TickAnswer}
+use Rattle.model.specs.declared.Commanded.{Commanded}
+use Rattle.model.specs.declared.Ticked.{Ticked}
 
 abbrev pub resetState : State
 resetState = record { registers = atReset; phase = 0 }
@@ -40,10 +43,14 @@ totalsWithin r m totals = allTo 7 (λ n. allTo 112 (λ b. leb (slot totals n b) 
 unfoldable pub phaseSound : Registers → ℕ → Bool
 phaseSound r p = cond (runningOf r) (ltb p (periodTicks r)) (eqb p 0)
 
+-- what soundness asks of the state's fields beside its registers
+unfoldable pub periodSound : State → Bool
+periodSound s = phaseSound (s .registers) (s .phase)
+
 unfoldable pub stateSound : State → List ℕ → Bool
 stateSound s totals =
     registersSound (s .registers)
-    && phaseSound (s .registers) (s .phase)
+    && periodSound s
     && totalsWithin (s .registers) (spectraHeld (s .registers) (s .phase)) totals
 
 -- ---- commands
@@ -54,9 +61,12 @@ pub record CommandOutcome : Type 0 where
   pub state : State
   pub totals : List ℕ
 
-abbrev pub commandReply : Answer → Reply ℕ
-commandReply (Answer.Value v) = stores v
-commandReply (Answer.Refused n) = refused (numberOf n)
+abbrev pub commandReply : Outcome ℕ → Reply ℕ
+commandReply (given v) = stores v
+commandReply (outcome.refused n) = refused n
+
+abbrev pub commandedOutcome : Commanded → List ℕ → CommandOutcome
+commandedOutcome r totals = record { answer = commandReply (answerOutcome (r .answer)); state = r .state; totals = totals }
 
 abbrev pub commandRefused : ℕ → State → List ℕ → CommandOutcome
 commandRefused n s totals = record { answer = refused n; state = s; totals = totals }
@@ -89,6 +99,9 @@ tickReply TickAnswer.Collected = collected
 tickReply (TickAnswer.Reported words) = reported words
 tickReply TickAnswer.Waiting = waiting
 tickReply (TickAnswer.Refused n) = refused (numberOf n)
+
+abbrev pub tickedOutcome : Ticked → List ℕ → List ℕ → TickOutcome
+tickedOutcome r totals out = record { answer = tickReply (r .answer); state = r .state; totals = totals; out = out }
 
 -- the state with phase p + 1, or 0 after C - 1
 abbrev pub atNextPhase : State → State

@@ -69,6 +69,7 @@ performAll x (c ∷ cs) = performAll (perform x c .memory) cs
 
 -- ---- what the reference model takes of a call, what it begins with, and what its entry says of the answer and the output
 
+-- the length of the totals passed: the caller's are 784 when a list of calls begins (`Begun`), and no call changes how many
 abbrev pub passedLength : TotalsPassed → ℕ
 passedLength current = 784
 passedLength (wrong l _) = length l

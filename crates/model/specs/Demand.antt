@@ -24,9 +24,9 @@ pub record ReportedBand (r : Registers) (n b : ℕ) : Type 0 where
   pub enabled : enabledOf r n ≡ true
   pub band : b < bandsOf r
 
--- its word: behind those of the enabled processors before n
-abbrev pub wordOf : Registers → ℕ → ℕ → ℕ
-wordOf r n b = enabledBefore r n * wordsEach r + b / 2
+-- the place of its word in the report: behind those of the enabled processors before n
+abbrev pub wordIndex : Registers → ℕ → ℕ → ℕ
+wordIndex r n b = enabledBefore r n * wordsEach r + b / 2
 
 -- its byte in the word: bits 15:8 for an odd band, which stand before bits 7:0
 abbrev pub byteInWord : ℕ → ℕ
@@ -34,7 +34,7 @@ byteInWord b = cond (eqb (b % 2) 0) 2 1
 
 -- 01's V: what the band's code stands for in the words that the reporting tick wrote
 abbrev pub printedValue : Registers → List ℕ → ℕ → ℕ → ℕ
-printedValue r out n b = bandValue (getD out (3 * wordOf r n b + byteInWord b) 0)
+printedValue r out n b = bandValue (getD out (3 * wordIndex r n b + byteInWord b) 0)
 
 -- ---- one call
 

@@ -6,3 +6,4 @@ pub mod Board
 pub mod Reference
 pub mod Calls
 pub mod Demand
+pub mod Claims

@@ -4,7 +4,7 @@ use Prim.Native.Nat.{ℕ, _+_, _-_}
 use mathlib.Core.Bool.{cond, not, _&&_}
 use mathlib.Core.List.{List, [], _∷_, _++_}
 use lib.ListN.{length}
-use lib.Dec.{leb, eqb}
+use lib.Dec.{leb, ltb, eqb}
 use Rattle.registers.specs.Store.{stored}
 use Rattle.registers.specs.Access.{isId, storedTo}
 use Rattle.settings.specs.Settings.{averagedSpectra, periodTicks, runningOf}
@@ -45,31 +45,34 @@ entryCommand m id v totalsLength =
     (cond (not (isId id)) (entryRefused m 1)
     (record { reply = stores (stored id v); next = record { registers = storedTo (m .registers) id v; phase = 0; spectra = [] } }))
 
--- the phase becomes p + 1, or 0 after C - 1
-abbrev pub onward : Reference → List (List ℕ) → Reference
-onward m spectra =
+-- a tick of a running board leaves the book with these spectra, and the phase becomes p + 1, or 0 after C - 1
+abbrev pub afterTick : Reference → List (List ℕ) → Reference
+afterTick m spectra =
     record { registers = m .registers; phase = cond (eqb (m .phase) (periodTicks (m .registers) - 1)) 0 (m .phase + 1); spectra = spectra }
 
--- at p = N - 1: refused by 13, else it reports on its spectra and drops them
+-- a report on the spectra kept: refused by 13, else it reports on them and drops them
 abbrev pub entryReport : Reference → List (List ℕ) → Entry
-entryReport m spectra =
-    cond (not (meansWithin (m .registers) (spectraTotal (m .registers) spectra))) (entryRefused m 13)
-    (record { reply = reported spectra; next = onward m [] })
+entryReport m kept =
+    cond (not (meansWithin (m .registers) (spectraTotal (m .registers) kept))) (entryRefused m 13)
+    (record { reply = reported kept; next = afterTick m [] })
 
--- a tick when running: at p ≥ N it keeps nothing; at p < N it keeps the tick's rows as one spectrum, which spectra has too, and at
--- p = N - 1 it then reports
-abbrev pub entryRunning : Reference → List (List ℕ) → Entry
-entryRunning m spectra =
-    cond (leb (averagedSpectra (m .registers)) (m .phase)) (record { reply = waiting; next = onward m [] })
-    (cond (eqb (m .phase) (averagedSpectra (m .registers) - 1)) (entryReport m spectra)
-    (record { reply = collected; next = onward m spectra }))
+-- with the tick's rows kept: at p = N - 1 the book then reports on its N spectra
+abbrev pub entryKept : Reference → List (List ℕ) → Entry
+entryKept m kept =
+    cond (eqb (m .phase) (averagedSpectra (m .registers) - 1)) (entryReport m kept) (record { reply = collected; next = afterTick m kept })
+
+-- when running: at p < N it keeps the tick's 7 rows as one spectrum; at p ≥ N it keeps nothing
+abbrev pub entryRunning : Reference → List ℕ → Entry
+entryRunning m powers =
+    cond (ltb (m .phase) (averagedSpectra (m .registers))) (entryKept m (m .spectra ++ (powers ∷ [])))
+    (record { reply = waiting; next = afterTick m [] })
 
 -- a tick: refused by 2; not running, it changes nothing
 abbrev pub entryTick : Reference → List ℕ → ℕ → ℕ → Entry
 entryTick m powers totalsLength outLength =
     cond (not (eqb (length powers) 7168 && eqb totalsLength 784 && leb 1176 outLength)) (entryRefused m 2)
     (cond (not (runningOf (m .registers))) (record { reply = idle; next = m })
-    (entryRunning m (m .spectra ++ (powers ∷ []))))
+    (entryRunning m powers))
 
 unfoldable pub entry : Reference → Input → Entry
 entry m (command id v totalsLength) = entryCommand m id v totalsLength

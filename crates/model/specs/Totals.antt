@@ -14,7 +14,7 @@ use Rattle.registers.specs.declared.Registers.{Registers}
 abbrev pub inUse : Registers → ℕ → ℕ → Bool
 inUse r n b = enabledOf r n && ltb b (bandsOf r)
 
--- 01's W: the number of bins of band b
+-- 01's W: the number of bins of band b, which is how many bins the band rule puts into it (`WidthCounts`, bands/specs/Claims.antt)
 abbrev pub widthOf : Registers → ℕ → ℕ
 widthOf r b = bandWidth (sizeExponent (settingOf r)) b
 

@@ -36,7 +36,7 @@ pub struct Ticked {
 
 impl State {
     // The bins of a spectrum.
-    pub const BINS: usize = 1024;
+    pub const BINS: usize = bands::BINS as usize;
 
     // The totals of a processor.
     pub const BANDS: usize = 112;
@@ -65,7 +65,7 @@ impl State {
         ensures { λ r. ⌜ answerOutcome r ≡ registerRead (self .registers) id ⌝ }
     {
         let registers = self.registers;
-        if !store::is_sound(registers) {
+        if !registers.is_sound() {
             return Answer::Refused(Refusal::UnsoundState);
         }
         if !registers::is_id(id) {

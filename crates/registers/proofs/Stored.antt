@@ -3,12 +3,12 @@
 use Prim.Native.Nat.{ℕ, _+_, _*_, _/_, _<_, _≤_}
 use mathlib.Core.Path.{_≡_, refl, ap, sym, _∙_}
 use mathlib.Core.Bool.{Bool, true, false, cond, _&&_, false≢true}
+use native.Mathlib.Nat.{le-trans, le-of-eq}
 use native.Mathlib.Omega.{arith}
 use borrow.Author.Tests.{eq-eqb, ne-eqb, eqb-true, le-leb, lt-ltb, ltb-true}
 use lib.Dec.{eqb, leb, ltb, lit≤}
 use Rattle.lists.proofs.Choices.{both}
 use Rattle.registers.specs.Store.{limited, sourceOf, enableOf, binsOf, navgOf, ncadOf, highStored, lowStored, storedAt, canStore}
-use Rattle.registers.specs.Private.{highWithin}
 use Rattle.registers.proofs.Laws.{limited-le, limited-again, high-le, low-lt}
 
 -- the fields of a value that is put together from a high part of three fields and a low part of two
@@ -85,6 +85,22 @@ stored-lt n v = by (eqb n 0)
     by true = omega (arith, high-le v, low-lt 3 v (lit≤ tt))
     by false = omega (arith, low-lt 18 v (lit≤ tt))
 
+-- the fields of the value that 0x30 stores are within their limits
+pub record Within (v : ℕ) : Type 0 where
+  pub bins : binsOf v ≤ 2
+  pub navg : navgOf v ≤ 0xA
+  pub ncad : ncadOf v ≤ 0xA
+
+pub first-stored : (v : ℕ) → Within (storedAt 0 v)
+unfolding storedAt
+first-stored v =
+    let f = first-fields v in
+    record {
+      bins = le-trans (le-of-eq (f .2)) (limited-le 2 1 (binsOf v) (lit≤ tt));
+      navg = le-trans (le-of-eq (f .1)) (limited-le 0xA 3 (navgOf v) (lit≤ tt));
+      ncad = le-trans (le-of-eq (f .0)) (limited-le 0xA 6 (ncadOf v) (lit≤ tt));
+    }
+
 -- two tests that hold together are equal
 same-test : (a b : Bool) → (a ≡ true → b ≡ true) → (b ≡ true → a ≡ true) → a ≡ b
 same-test true true h k = refl
@@ -110,11 +126,14 @@ whole-of v =
     omega arith
 
 -- with a source within the limit, 0x30 can store a value exactly if the other fields are within theirs
-pub first-can : (v : ℕ) → sourceOf v ≤ 0x16 → canStore 0 v ≡ highWithin v
+pub first-can : (v : ℕ) → sourceOf v ≤ 0x16 → canStore 0 v ≡ (leb (ncadOf v) 0xA && (leb (navgOf v) 0xA && leb (binsOf v) 2))
 unfolding storedAt highStored lowStored
-first-can v h = same-test (canStore 0 v) (highWithin v) only if-so
+first-can v h = same-test (canStore 0 v) within only if-so
   where
-    only : canStore 0 v ≡ true → highWithin v ≡ true
+    within : Bool
+    within = leb (ncadOf v) 0xA && (leb (navgOf v) 0xA && leb (binsOf v) 2)
+
+    only : canStore 0 v ≡ true → within ≡ true
     only t =
         let e : first v ≡ v = eqb-true _ _ t in
         simp (
@@ -123,7 +142,7 @@ first-can v h = same-test (canStore 0 v) (highWithin v) only if-so
           le-leb (binsOf v) 2 (omega (arith, sym (ap binsOf e) ∙ first-fields v .2, limited-le 2 1 (binsOf v) (lit≤ tt))),
         )
 
-    if-so : highWithin v ≡ true → canStore 0 v ≡ true
+    if-so : within ≡ true → canStore 0 v ≡ true
     if-so t =
         let p = both (leb (ncadOf v) 0xA) (leb (navgOf v) 0xA && leb (binsOf v) 2) t in
         let q = both (leb (navgOf v) 0xA) (leb (binsOf v) 2) (p .1) in

@@ -4,7 +4,6 @@
 use Prim.Native.Nat.{ℕ, _-_, _<_}
 use mathlib.Core.Path.{_≡_, refl, sym, ap, subst}
 use mathlib.Core.Bool.{true}
-use mathlib.Core.Logic.{_↔_}
 use native.Mathlib.Omega.{arith}
 use borrow.Author.Tests.{eq-eqb, eqb-true, eqb-false, ltb-true, ltb-false}
 use lib.Dec.{eqb, ltb}
@@ -16,14 +15,15 @@ use Rattle.lists.proofs.Sums.{allTo-of, allTo-at}
 use Rattle.refusal.specs.Outcome.{given}
 use Rattle.refusal.proofs.Outcomes.{refused-given}
 use Rattle.registers.specs.Store.{highStored, lowStored, storedAt, stored}
-use Rattle.registers.specs.Access.{answerOutcome, register, storable, registersSound, isId, storedTo, atReset, registerRead, writeOutcome}
+use Rattle.registers.specs.Access.{answerOutcome, register, storable, registersSound, isId, storedTo, registerRead, writeOutcome}
+use Rattle.registers.specs.Claims.{CanStore, ResetSound, WriteSound, WriteBack, WriteOne, ReadWritten}
 use Rattle.registers.specs.declared.Registers.{Registers}
 use Rattle.registers.specs.declared.Answer.{Answer}
 use Rattle.registers.proofs.Laws.{id-range}
 use Rattle.registers.proofs.Stored.{stored-again, stored-lt}
 
 -- a value is one that a write of 16 bits to register n can store exactly if a write of it stores it
-pub can-store : (n w : ℕ) → ((v : ℕ) × (v < 65536) × (storedAt n v ≡ w)) ↔ (storedAt n w ≡ w)
+pub can-store : CanStore
 can-store n w = (λ p. rw (← p .2) (stored-again n (p .0)), λ e. (w, rw e at (stored-lt n w), e))
 
 -- `sound` says so of each register
@@ -36,7 +36,7 @@ unfolding registersSound
 sound-of r h = allTo-of 7 _ (λ n l. eq-eqb _ _ (h n l))
 
 -- a register that is set to a value that it can store leaves the registers sound
-pub write-sound : (r : Registers) (id v : ℕ) → registersSound r ≡ true → registersSound (storedTo r id v) ≡ true
+pub write-sound : WriteSound
 write-sound r id v h = sound-of (storedTo r id v) at-each
   where
     n : ℕ
@@ -52,12 +52,12 @@ write-sound r id v h = sound-of (storedTo r id v) at-each
         (λ e. rw (getD-set-other (r .value) n j (stored id v) 0 (eqb-false j n e)) (sound-at r h j l))
 
 -- reset gives sound registers
-pub reset-sound : registersSound atReset ≡ true
+pub reset-sound : ResetSound
 unfolding registersSound allTo storedAt highStored lowStored
 reset-sound = refl
 
 -- what an accepted read and an accepted write had
-read-accepted : (r : Registers) (id v : ℕ) → registerRead r id ≡ given v → (registersSound r ≡ true) × (isId id ≡ true) × (register r (id - 0x30) ≡ v)
+pub read-accepted : (r : Registers) (id v : ℕ) → registerRead r id ≡ given v → (registersSound r ≡ true) × (isId id ≡ true) × (register r (id - 0x30) ≡ v)
 unfolding registerRead
 read-accepted r id v e =
     by-cases (registersSound r) (λ s. by-cases (isId id)
@@ -85,7 +85,7 @@ answer-given (Answer.Value u) v e = let same : u ≡ v = cc in ap Answer.Value s
 answer-given (Answer.Refused r) v e = absurd (refused-given _ v e)
 
 -- writing back what was read stores the same value again and changes nothing
-pub write-back : (r : Registers) (id v : ℕ) → registerRead r id ≡ given v → writeOutcome r id v ≡ record { answer = given v; registers = r }
+pub write-back : WriteBack
 unfolding writeOutcome
 write-back r id v e =
     let t = read-accepted r id v e in
@@ -94,7 +94,7 @@ write-back r id v e =
     rw (t .0, t .1, ← t .2, same, set-getD)
 
 -- a write changes no other register
-pub write-one : (r : Registers) (id v n : ℕ) → (n ≡ id - 0x30 → ⊥) → register (writeOutcome r id v .registers) n ≡ register r n
+pub write-one : WriteOne
 unfolding writeOutcome
 write-one r id v n other =
     by-cases (registersSound r) (λ s. by-cases (isId id)
@@ -103,7 +103,7 @@ write-one r id v n other =
     (λ s. rw s)
 
 -- a read after an accepted write gives the value stored; the registers are seven, as those of the type are
-pub read-written : (r : Registers) (id v w : ℕ) → length (r .value) ≡ 7 → writeOutcome r id v .answer ≡ given w → registerRead (writeOutcome r id v .registers) id ≡ given w
+pub read-written : ReadWritten
 unfolding registerRead writeOutcome
 read-written r id v w long e =
     let t = write-accepted r id v w e in

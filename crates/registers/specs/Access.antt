@@ -1,4 +1,4 @@
--- Reset, store and read of the seven registers (01, "Registers 0x30 to 0x36" and "Refusal numbers").
+-- Fields, reset, store and read of the seven registers (01, "Registers 0x30 to 0x36" and "Refusal numbers").
 use Prim.Native.Nat.{ℕ, _-_}
 use mathlib.Core.Bool.{Bool, cond, not, _&&_}
 use lib.Dec.{leb}
@@ -6,10 +6,15 @@ use lib.ListN.{getD, set, replicate}
 use Rattle.lists.specs.Sums.{allTo}
 use Rattle.refusal.specs.Number.{numberOf}
 use Rattle.refusal.specs.Outcome.{Outcome, given, refused}
-use Rattle.registers.specs.Store.{stored, canStore}
+use Rattle.registers.specs.Store.{sourceOf, enableOf, binsOf, navgOf, ncadOf, stored, canStore}
+use Rattle.registers.specs.declared.Fields.{Fields}
 use Rattle.registers.specs.declared.Registers.{Registers}
 use Rattle.registers.specs.declared.Answer.{Answer}
 use Rattle.registers.specs.declared.Write.{Write}
+
+-- the fields of 16 bits of information
+abbrev pub fieldsOf : ℕ → Fields
+fieldsOf v = record { source = sourceOf v; enable = enableOf v; bins = binsOf v; navg = navgOf v; ncad = ncadOf v }
 
 -- all registers after reset
 abbrev pub atReset : Registers

@@ -1,7 +1,7 @@
 -- The store rule of the spectral registers (01, "Registers 0x30 to 0x36"). Register n, counted from 0, has the ID 0x30 + n and belongs
 -- to processor n + 1.
 use Prim.Native.Nat.{ℕ, _+_, _-_, _*_, _/_, _%_}
-use mathlib.Core.Bool.{Bool, cond, _&&_}
+use mathlib.Core.Bool.{Bool, cond}
 use lib.Dec.{leb, eqb}
 
 -- the fields of 16 bits of information: source 4:0, enable 5, bins 7:6, NAVG 11:8, NCAD 15:12
@@ -44,6 +44,6 @@ storedAt n v = cond (eqb n 0) (highStored v + lowStored 0x03 v) (lowStored 0x12 
 abbrev pub stored : ℕ → ℕ → ℕ
 stored id v = storedAt (id - 0x30) v
 
--- register n can store the value: it is what a write of it stores (`can-store` of proofs/Theorems.antt)
+-- register n can store the value: it is what a write of it stores (`CanStore` of Claims.antt)
 abbrev pub canStore : ℕ → ℕ → Bool
 canStore n v = eqb (storedAt n v) v

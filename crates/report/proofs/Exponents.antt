@@ -4,14 +4,12 @@ use mathlib.Core.Path.{_≡_, sym, ap, _∙_}
 use native.Mathlib.Nat.{le-refl, pow-suc}
 use native.Mathlib.Omega.{arith}
 use lib.Count.{leadingZeros, leading-unique}
-use lib.Dec.{leb, lit≤}
 use lib.Pow.{pow-lt, pow-add}
-use borrow.Author.Tests.{leb-true}
-use Rattle.lists.proofs.Choices.{cond-at}
 use Rattle.bands.specs.Band.{sizeExponent, widthExponent, bandWidth}
 use Rattle.registers.specs.Access.{register}
-use Rattle.registers.specs.Store.{navgOf, limited}
-use Rattle.settings.specs.Settings.{averagedSpectra}
+use Rattle.registers.specs.Store.{navgOf}
+use Rattle.registers.proofs.Stored.{first-stored}
+use Rattle.settings.specs.Settings.{firstStored, averagedSpectra}
 use Rattle.registers.specs.declared.Registers.{Registers}
 
 pow-leading : (k n : ℕ) → n < k → leadingZeros k (2 ^ n) ≡ k - suc n
@@ -26,8 +24,8 @@ pub record Averaged (r : Registers) (zeros : ℕ) : Type 0 where
 pub averaged-leading : (r : Registers) (spectra : ℕ) → spectra ≡ averagedSpectra r → Averaged r (leadingZeros 16 spectra)
 unfolding averagedSpectra
 averaged-leading r spectra e =
-    let navg : ℕ = limited 0xA 3 (navgOf (register r 0)) in
-    let small : navg ≤ 10 = cond-at (λ (x : ℕ). x ≤ 10) (leb (navgOf (register r 0)) 0xA) (leb-true (navgOf (register r 0)) 0xA) (λ f. lit≤ tt) in
+    let navg : ℕ = navgOf (firstStored r) in
+    let small : navg ≤ 10 = first-stored (register r 0) .navg in
     let zeros : leadingZeros 16 spectra ≡ 16 - suc navg = ap (leadingZeros 16) e ∙ pow-leading 16 navg (omega arith) in
     let back : 15 - leadingZeros 16 spectra ≡ navg = omega arith in
     record { zeros-le = omega arith; power = ap (λ (x : ℕ). 2 ^ x) back; exponent-le = omega arith }

@@ -54,7 +54,7 @@ fn write_word(out: &mut [u8], upper: u8, lower: u8)
     requires { ⌜ length (now out) ≡ 3 ⌝ }
     ensures { λ _. ⌜ now (out .exit) ≡ 0x4E ∷ upper ∷ lower ∷ [] ⌝ }
 {
-    out[0] = 0x4E;
+    out[0] = words::SPEC;
     out[1] = upper;
     out[2] = lower;
 }
@@ -112,7 +112,7 @@ fn write_rows(registers: Registers, totals: &[u64], out: &mut [u8]) -> usize
         let slot = n * State::BANDS;
         let at = 3 * written;
         written += write_if_enabled(
-            processors::enabled(registers, n),
+            settings::enabled(registers, n),
             setting,
             words,
             exponent,

@@ -1,18 +1,17 @@
 -- Laws of lists that are written from the front, and of packed words.
-use Prim.Native.Nat.{ℕ, zero, suc, _+_, _*_, _<_, _≤_}
-use mathlib.Core.Path.{_≡_, refl, ap, sym, subst, _∙_}
-use mathlib.Core.Bool.{Bool, true, false, cond, _&&_, and-false, and-true, and-assoc}
+use Prim.Native.Nat.{ℕ, zero, suc, _+_, _*_, _<_}
+use mathlib.Core.Path.{_≡_, refl, ap, sym, _∙_}
+use mathlib.Core.Bool.{Bool, true, false, _&&_, and-false, and-true, and-assoc}
 use mathlib.Core.List.{List, [], _∷_, _++_}
 use native.Mathlib.Numerals.{add-one}
 use native.Mathlib.Nat.{add-zero}
 use native.Mathlib.Omega.{arith}
-use lib.Dec.{eqb, lit≤}
+use lib.Dec.{eqb}
 use lib.IntN.{ℤ, pos}
 use lib.ListN.{length, getD, take, drop}
 use lib.Seq.{getD-drop, take-suc}
-use Rattle.refusal.specs.Outcome.{Outcome, given, refused}
 use Rattle.words.specs.Sample.{bitsOf, sampleOf}
-use Rattle.words.specs.Words.{setSize, wordBytes}
+use Rattle.words.specs.Words.{wordBytes}
 use Rattle.sets.specs.Sets.{packedBytes, everyApid, samplesOf}
 
 packed-snoc : (apid : ℕ) (xs : List ℤ) (z : ℤ) → packedBytes apid (xs ++ (z ∷ [])) ≡ packedBytes apid xs ++ wordBytes apid (bitsOf z)

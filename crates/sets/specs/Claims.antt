@@ -10,7 +10,7 @@ use Rattle.lists.specs.Tables.{overwrite}
 use Rattle.refusal.specs.Outcome.{given}
 use Rattle.sets.specs.Sets.{packOutcome, unpackOutcome}
 
--- samples that 16 bits hold, as every list of `i16` is
+-- samples that 16 bits hold, from -32768 to 32767, as every list of `i16` has them: `mag` of n is n, and of -(n + 1) it is n
 abbrev pub Are16 : List ℤ → Type 0
 Are16 [] = Unit {0}
 Are16 (z ∷ zs) = (mag z < 32768) × Are16 zs

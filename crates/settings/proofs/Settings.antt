@@ -9,16 +9,15 @@ use borrow.Author.Tests.{leb-true}
 use Rattle.lists.proofs.Choices.{both, cond-at}
 use Rattle.lists.proofs.Sums.{sumTo-more, sumTo-bound}
 use Rattle.registers.proofs.Counts.{bands-count, bands-some}
-use Rattle.registers.specs.Store.{binsOf, navgOf, ncadOf}
 use Rattle.registers.specs.Access.{register}
 use Rattle.settings.specs.Settings.{settingOf, bandsOf, averagedSpectra, periodTicks, enabledOf, enabledBefore, enabledCount, runningOf}
 use Rattle.registers.specs.declared.Registers.{Registers}
-use Rattle.registers.proofs.Laws.{limited-le}
+use Rattle.registers.proofs.Stored.{first-stored}
 
 module _ (r : Registers) where
   pub setting-le : settingOf r ≤ 2
   unfolding settingOf
-  setting-le = limited-le 2 1 (binsOf (register r 0)) (lit≤ tt)
+  setting-le = first-stored (register r 0) .bins
 
   pub bands-le : bandsOf r ≤ 112
   bands-le = bands-count (settingOf r) .at-most
@@ -38,7 +37,7 @@ module _ (r : Registers) where
 
   pub averaged-le : averagedSpectra r ≤ 1024
   unfolding averagedSpectra
-  averaged-le = pow-mono (limited-le 10 3 (navgOf (register r 0)) (lit≤ tt))
+  averaged-le = pow-mono (first-stored (register r 0) .navg)
 
   pub period-pos : 0 < periodTicks r
   unfolding periodTicks
@@ -46,7 +45,7 @@ module _ (r : Registers) where
 
   pub period-le : periodTicks r ≤ 1024
   unfolding periodTicks
-  period-le = pow-mono (limited-le 10 6 (ncadOf (register r 0)) (lit≤ tt))
+  period-le = pow-mono (first-stored (register r 0) .ncad)
 
   -- a running board has N ≤ C
   pub running-le : runningOf r ≡ true → averagedSpectra r ≤ periodTicks r

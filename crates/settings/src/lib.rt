@@ -1,21 +1,24 @@
-// What the spectral registers set (01, "Registers 0x30 to 0x36", "Periods" and "Words and sets"). A field that no write can store counts
-// as what a write of it would store.
+// What the spectral registers set (01, "Registers 0x30 to 0x36", "Periods" and "Words and sets"). Bins, NAVG and NCAD are those that 0x30
+// stores; a field that no write can store counts as what a write of it would store.
 ghost use mathlib.Core.Path.{_≡_};
-ghost use Prim.Native.Nat.{_^_, _≤_};
-ghost use Rattle.registers.specs.Store.{limited};
-ghost use Rattle.settings.specs.Settings.{settingOf, bandsOf, averagedSpectra, periodTicks};
+ghost use Rattle.registers.specs.Access.{fieldsOf};
+ghost use Rattle.settings.specs.Settings.{firstStored, settingOf, bandsOf, averagedSpectra, periodTicks, enabledOf, enabledCount, runningOf};
+use registers::Fields;
 use registers::Registers;
+
+// The fields of 0x30 as stored.
+fn first_fields(registers: Registers) -> Fields
+    ensures { λ r. ⌜ r ≡ fieldsOf (firstStored registers) ⌝ }
+{
+    Fields::of(registers::stored_at(0, registers.value[0]))
+}
 
 // The bin setting: 0, 1 or 2.
 pub fn bin_setting(registers: Registers) -> u8
     ensures { λ r. ⌜ r ≡ settingOf registers ⌝ }
 {
-    let bins = registers::limited_field(
-        registers.value[0] / 64 % 4,
-        Registers::BINS_LIMIT,
-        Registers::BINS_DEFAULT,
-    );
-    bins as u8
+    let fields = first_fields(registers);
+    fields.bins as u8
 }
 
 // The number of bands that every processor reports.
@@ -26,24 +29,53 @@ pub fn bands(registers: Registers) -> usize
     registers::BAND_COUNTS[setting] as usize
 }
 
-// 2 to the power of a field that may be 0 to 0xA; of its default for any other.
-fn two_to(field: u16, default: u16) -> u16
-    requires { ⌜ default ≤ 0xA ⌝ }
-    ensures { λ r. ⌜ r ≡ 2 ^ limited 0xA default field ⌝ }
-{
-    1u16 << registers::limited_field(field, 0xA, default)
-}
-
 // N, the number of spectra of a report.
 pub fn averaged_spectra(registers: Registers) -> u16
     ensures { λ r. ⌜ r ≡ averagedSpectra registers ⌝ }
 {
-    two_to(registers.value[0] / 256 % 16, Registers::NAVG_DEFAULT)
+    let fields = first_fields(registers);
+    1u16 << fields.navg
 }
 
 // C, the number of ticks of a period.
 pub fn period_ticks(registers: Registers) -> u16
     ensures { λ r. ⌜ r ≡ periodTicks registers ⌝ }
 {
-    two_to(registers.value[0] / 4096, Registers::NCAD_DEFAULT)
+    let fields = first_fields(registers);
+    1u16 << fields.ncad
+}
+
+// Whether processor n, counted from 0, is enabled.
+pub fn enabled(registers: Registers, n: usize) -> bool
+    ensures { λ r. ⌜ r ≡ enabledOf registers n ⌝ }
+{
+    if n < Registers::COUNT {
+        let fields = Fields::of(registers.value[n]);
+        fields.enable == 1
+    } else {
+        false
+    }
+}
+
+// How many processors are enabled.
+pub fn enabled_count(registers: Registers) -> usize
+    ensures { λ r. ⌜ r ≡ enabledCount registers ⌝ }
+{
+    let mut count: usize = 0;
+    for n in 0..Registers::COUNT {
+        if enabled(registers, n) {
+            count += 1;
+        }
+    }
+    count
+}
+
+// Whether some processor is enabled and N is at most C.
+pub fn running(registers: Registers) -> bool
+    ensures { λ r. ⌜ r ≡ runningOf registers ⌝ }
+{
+    if enabled_count(registers) == 0 {
+        return false;
+    }
+    averaged_spectra(registers) <= period_ticks(registers)
 }

@@ -91,7 +91,7 @@ fn add_rows(registers: Registers, totals: &mut [u64], powers: &[u32])
         let slot = n * State::BANDS;
         let bin = n * State::BINS;
         add_if_enabled(
-            processors::enabled(registers, n),
+            settings::enabled(registers, n),
             setting,
             &mut totals[slot..slot + State::BANDS],
             &powers[bin..bin + State::BINS],

@@ -1,10 +1,13 @@
--- Laws of the 16 bits of words that stand equally far apart: the first of them, and two parts. Assumes nothing.
+-- Laws of the 16 bits of words that stand equally far apart: the first of them, two parts, and words in one part of the bytes. Assumes
+-- nothing.
 use mathlib.Core.List.{List, [], _∷_, _++_}
 use mathlib.Core.Path.{_≡_, refl, ap, ap₂, _∙_}
-use Prim.Native.Nat.{ℕ, zero, suc, _+_, _*_}
-use native.Mathlib.Nat.{mul-add, mul-one, mul-zero}
+use Prim.Native.Nat.{ℕ, zero, suc, _+_, _*_, _≤_}
+use native.Mathlib.Nat.{mul-add, mul-one, mul-suc, mul-zero}
 use native.Mathlib.Omega.{arith}
-use Rattle.words.specs.Words.{pairAt, bitsFrom}
+use lib.ListN.{length, getD, List·getD-append}
+use lib.Seq.{getD-append-add}
+use Rattle.words.specs.Words.{pairOf, pairAt, bitsFrom}
 
 module _ (stride : ℕ) (bytes : List ℕ) where
   pub bits-none : (at : ℕ) → bitsFrom stride bytes at 0 ≡ []
@@ -29,3 +32,24 @@ module _ (stride : ℕ) (bytes : List ℕ) where
       ap (bitsFrom stride bytes at) b
       ∙ ap (λ (l : List ℕ). pairAt bytes at ∷ l) (bits-parts (at + stride) n m)
       ∙ ap (λ (p : ℕ). pairAt bytes at ∷ (bitsFrom stride bytes (at + stride) n ++ bitsFrom stride bytes p m)) a
+
+-- bytes put one after the other: words that lie in the first part, and words behind it
+module _ (stride : ℕ) (a b : List ℕ) where
+  pub bits-front : 3 ≤ stride → (at n : ℕ) → at + stride * n ≤ length a + 1 → bitsFrom stride (a ++ b) at n ≡ bitsFrom stride a at n
+  unfolding bitsFrom
+  bits-front wide at zero h = refl
+  bits-front wide at (suc n) h =
+      let d : stride * suc n ≡ stride * n + stride = mul-suc stride n in
+      ap₂ (λ (p : ℕ) (l : List ℕ). p ∷ l)
+      (ap₂ pairOf (List·getD-append a b 0 at (omega arith)) (List·getD-append a b 0 (at + 1) (omega arith)))
+      (bits-front wide (at + stride) n (omega arith))
+
+  pub bits-behind : (at n : ℕ) → bitsFrom stride (a ++ b) (length a + at) n ≡ bitsFrom stride b at n
+  unfolding bitsFrom
+  bits-behind at zero = refl
+  bits-behind at (suc n) =
+      let next : length a + at + 1 ≡ length a + (at + 1) = omega arith in
+      let far : length a + at + stride ≡ length a + (at + stride) = omega arith in
+      ap₂ (λ (p : ℕ) (l : List ℕ). p ∷ l)
+      (ap₂ pairOf (getD-append-add a b at 0) (ap (λ (i : ℕ). getD (a ++ b) i 0) next ∙ getD-append-add a b (at + 1) 0))
+      (ap (λ (i : ℕ). bitsFrom stride (a ++ b) i n) far ∙ bits-behind (at + stride) n)

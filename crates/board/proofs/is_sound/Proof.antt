@@ -17,8 +17,8 @@ returns-2 c =
     rw (
       ← c .before .before .before .is-sound .ensures,
       not-false (c .before .before .before .is-sound .result) (c .before .before .if1 .left),
-      ← c .before .is-phase-sound .ensures,
-      not-true (c .before .is-phase-sound .result) (c .if2 .taken),
+      ← c .before .is-period-sound .ensures,
+      not-true (c .before .is-period-sound .result) (c .if2 .taken),
     )
 
 returns-3 : tie.Need-returns-3
@@ -28,8 +28,8 @@ returns-3 c =
     rw (
       ← c .before .before .before .before .before .is-sound .ensures,
       not-false (c .before .before .before .before .before .is-sound .result) (c .before .before .before .before .if1 .left),
-      ← c .before .before .before .is-phase-sound .ensures,
-      not-false (c .before .before .before .is-phase-sound .result) (c .before .before .if2 .left),
+      ← c .before .before .before .is-period-sound .ensures,
+      not-false (c .before .before .before .is-period-sound .result) (c .before .before .if2 .left),
       ← c .before .spectra-held .ensures,
     )
     (c .totals-within .ensures ∙ within-784 (a .state .registers) (c .before .spectra-held .result) (a .totals .now) (c .before .before .before .before .before .before .before .before .pre .1))

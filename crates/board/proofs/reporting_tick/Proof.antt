@@ -12,7 +12,7 @@ use Rattle.model.specs.Board.{reportOutcome}
 use Rattle.model.specs.Calls.{Powers}
 use Rattle.model.proofs.Ticks.{never-13}
 use Rattle.totals.proofs.Laws.{length-added}
-use Rattle.report.specs.Written.{Written, reportWritten}
+use Rattle.report.specs.Writing.{ReportLeft, reportWritten}
 use Rattle.report.proofs.Laws.{written-plain}
 use Rattle.board.proofs.Ticking.{added-here, added-within}
 use borrow.Author.Needs.{needs}
@@ -65,8 +65,8 @@ returns-2 c =
     ∙ written-plain (a .state .registers) (added (a .state .registers) (a .totals .now) (a .powers .now)) (means known) (a .out .now) (length-added _ _ _) (p .0 .room) in
     simp (
       means known,
-      ap (λ (w : Written). w .words) written,
-      ap (λ (w : Written). w .out) written,
+      ap (λ (w : ReportLeft). w .words) written,
+      ap (λ (w : ReportLeft). w .out) written,
       c .before .before .clear .ensures,
       p .1 .1,
     )

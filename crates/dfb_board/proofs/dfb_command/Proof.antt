@@ -2,11 +2,9 @@
 use mathlib.Core.Path.{_≡_, ap, _∙_}
 use native.Mathlib.Omega.{arith}
 use Prim.Native.Nat.{ℕ}
-use mathlib.Core.List.{List}
 use borrow.Author.Needs.{needs}
 use Rattle.model.specs.declared.State.{State}
 use Rattle.model.specs.Board.{CommandOutcome, commandOutcome}
-use Rattle.dfb_board.specs.Calls.{CommandCall}
 use Rattle.dfb_board.proofs.Calls.{command-number, command-done, command-other, command-state}
 use Rattle.dfb_board.proofs.dfb_command.Statement.{statement}
 use Rattle.dfb_board.proofs.dfb_command.Tie as tie

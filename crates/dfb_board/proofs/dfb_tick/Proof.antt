@@ -2,11 +2,9 @@
 use mathlib.Core.Path.{ap, _∙_}
 use native.Mathlib.Omega.{arith}
 use Prim.Native.Nat.{ℕ}
-use mathlib.Core.List.{List}
 use borrow.Author.Needs.{needs}
 use Rattle.model.specs.declared.State.{State}
 use Rattle.model.specs.Board.{tickOutcome}
-use Rattle.dfb_board.specs.Calls.{TickCall}
 use Rattle.dfb_board.proofs.Calls.{tick-done, tick-other, tick-state}
 use Rattle.dfb_board.proofs.dfb_tick.Statement.{statement}
 use Rattle.dfb_board.proofs.dfb_tick.Tie as tie

@@ -4,7 +4,6 @@ use mathlib.Core.List.{List}
 use Prim.Native.Nat.{ℕ}
 use borrow.Author.Needs.{needs}
 use lib.ListN.{getD}
-use Rattle.model.specs.declared.State.{State}
 use Rattle.dfb_board.proofs.State.{seven-of}
 use Rattle.dfb_board.proofs.load.Statement.{statement}
 use Rattle.dfb_board.proofs.load.Tie as tie

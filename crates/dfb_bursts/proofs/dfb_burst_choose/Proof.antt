@@ -4,7 +4,7 @@ use mathlib.Core.Path.{_≡_, sym, ap, _∙_, subst}
 use Prim.Native.Nat.{ℕ}
 use native.Mathlib.Omega.{arith}
 use Rattle.bursts.specs.Slots.{SlotsOutcome, doneOutcome, chooseOutcome}
-use Rattle.dfb_bursts.specs.Bursts.{listsRefused, unchanged, doneCall, burstChoose}
+use Rattle.dfb_bursts.specs.Bursts.{listsRefused, burstLeft, doneCall, burstChoose}
 use Rattle.dfb_bursts.proofs.Bursts.{slots-alike, slots-few, on-refused, on-slots, SmallDone, choose-small}
 use Rattle.dfb_bursts.proofs.dfb_burst_choose.Statement.{statement}
 use Rattle.dfb_bursts.proofs.dfb_burst_choose.Tie as tie
@@ -13,7 +13,7 @@ returns : tie.Need-returns
 unfolding burstChoose
 returns c =
     let a = c .before .before .before .before .before .before .args in
-    ap (λ (n : ℕ). unchanged n (a .status .now) (a .criteria .now)) (c .before .lists-refused .ensures)
+    ap (λ (n : ℕ). burstLeft n (a .status .now) (a .criteria .now)) (c .before .lists-refused .ensures)
     ∙ on-refused (a .status .now) (a .criteria .now) _ (λ e. c .if1 .taken (omega (arith, c .before .lists-refused .ensures, e)))
 
 load-slots-requires : tie.Need-load-slots-requires

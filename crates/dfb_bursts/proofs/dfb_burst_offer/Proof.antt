@@ -5,7 +5,7 @@ use Prim.Native.Nat.{ℕ}
 use native.Mathlib.Omega.{arith}
 use Rattle.bursts.specs.declared.Slots.{Slots}
 use Rattle.bursts.specs.Slots.{OfferOutcome, offeredOutcome, offerOutcome}
-use Rattle.dfb_bursts.specs.Bursts.{listsRefused, unchanged, offerCall, burstOffer}
+use Rattle.dfb_bursts.specs.Bursts.{listsRefused, burstLeft, offerCall, burstOffer}
 use Rattle.dfb_bursts.proofs.Bursts.{slots-alike, slots-few, on-refused, on-slots, SmallOffer, offer-small}
 use Rattle.dfb_bursts.proofs.dfb_burst_offer.Statement.{statement}
 use Rattle.dfb_bursts.proofs.dfb_burst_offer.Tie as tie
@@ -14,7 +14,7 @@ returns : tie.Need-returns
 unfolding burstOffer
 returns c =
     let a = c .before .before .before .before .before .before .args in
-    ap (λ (n : ℕ). unchanged n (a .status .now) (a .criteria .now)) (c .before .lists-refused .ensures)
+    ap (λ (n : ℕ). burstLeft n (a .status .now) (a .criteria .now)) (c .before .lists-refused .ensures)
     ∙ on-refused (a .status .now) (a .criteria .now) _ (λ e. c .if1 .taken (omega (arith, c .before .lists-refused .ensures, e)))
 
 load-slots-requires : tie.Need-load-slots-requires

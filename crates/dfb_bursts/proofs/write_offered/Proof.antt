@@ -8,7 +8,7 @@ use Rattle.refusal.specs.Number.{numberOf}
 use Rattle.refusal.specs.Outcome.{refused}
 use Rattle.dfb_refusals.specs.Numbers.{above16}
 use Rattle.dfb_refusals.proofs.Numbers.{refused-number}
-use Rattle.dfb_bursts.specs.Bursts.{offerCall, unchanged}
+use Rattle.dfb_bursts.specs.Bursts.{offerCall, burstLeft}
 use Rattle.dfb_bursts.proofs.Bursts.{written-lists}
 use borrow.Author.Needs.{needs}
 use Rattle.dfb_bursts.proofs.write_offered.Statement.{statement}
@@ -91,14 +91,14 @@ returns c =
 returns-2 : tie.Need-returns-2
 returns-2 c =
     let a = c .before .before .before .before .before .before .args in
-    ap (λ (n : ℕ). unchanged (n + 0x100000 * c .before .before .answer2 .given .0 .0) (a .status .now) (a .criteria .now)) (c .above-16 .ensures)
+    ap (λ (n : ℕ). burstLeft (n + 0x100000 * c .before .before .answer2 .given .0 .0) (a .status .now) (a .criteria .now)) (c .above-16 .ensures)
     ∙ ap (λ (w : OfferAnswer). offerCall (a .status .now) (a .criteria .now) (offerAnswerOutcome w) (a .offered .slots)) (sym (c .before .before .answer2 .given .1))
 
 returns-3 : tie.Need-returns-3
 returns-3 c =
     let a = c .before .before .before .before .before .before .args in
     let refusal = c .before .before .answer3 .given .0 .0 in
-    ap (λ (n : ℕ). unchanged n (a .status .now) (a .criteria .now)) (refused-number above16 refusal {o = refused (numberOf refusal)} (c .above-162 .ensures) refl)
+    ap (λ (n : ℕ). burstLeft n (a .status .now) (a .criteria .now)) (refused-number above16 refusal {o = refused (numberOf refusal)} (c .above-162 .ensures) refl)
     ∙ ap (λ (w : OfferAnswer). offerCall (a .status .now) (a .criteria .now) (offerAnswerOutcome w) (a .offered .slots)) (sym (c .before .before .answer3 .given .1))
 
 pub write-offered-spec : {M : Type 1} → statement M

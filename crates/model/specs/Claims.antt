@@ -1,0 +1,85 @@
+-- What is proved of single calls, and that demand 3 speaks of something: proofs/Ticks.antt, Commands.antt, Legal.antt, Invariant.antt and
+-- Witness.antt have it. Demand 3 itself is in Demand.antt.
+use Prim.Native.Nat.{ℕ, _-_, _<_, _^_}
+use mathlib.Core.Path.{_≡_}
+use mathlib.Core.Bool.{true}
+use mathlib.Core.List.{List}
+use mathlib.Core.Logic.{_⊎_}
+use lib.Dec.{eqb}
+use lib.ListN.{length}
+use Rattle.refusal.specs.Outcome.{given}
+use Rattle.codes.specs.Code.{legalWords}
+use Rattle.registers.specs.Access.{register, registerRead}
+use Rattle.registers.specs.declared.Registers.{Registers}
+use Rattle.settings.specs.Settings.{averagedSpectra, enabledOf, runningOf, specWords}
+use Rattle.words.specs.Words.{bitsFrom}
+use Rattle.model.specs.Reply.{Reply, refused, stores, idle, collected, waiting, reported}
+use Rattle.model.specs.Totals.{power, slot, noTotals, added}
+use Rattle.model.specs.Report.{mean, reportBytes, meansWithin}
+use Rattle.model.specs.Board.{stateSound, commandOutcome, tickOutcome}
+use Rattle.model.specs.Calls.{Powers}
+use Rattle.model.specs.Demand.{ReportedBand, Begun, resetMemory, Run, Reports}
+use Rattle.model.specs.declared.State.{State}
+
+-- ---- commands and reads
+
+-- an accepted command changes one register only
+abbrev pub OneRegister : Type 0
+OneRegister =
+    (s : State) (totals : List ℕ) (id v n : ℕ) → ¬ (n ≡ id - 0x30) → register (commandOutcome s totals id v .state .registers) n ≡ register (s .registers) n
+
+-- a read after an accepted command gives the value stored; the registers are seven, as those of the type are
+abbrev pub ReadCommanded : Type 0
+ReadCommanded =
+    (s : State) (totals : List ℕ) (id v w : ℕ) → length (s .registers .value) ≡ 7 → commandOutcome s totals id v .answer ≡ stores w →
+    registerRead (commandOutcome s totals id v .state .registers) id ≡ given w
+
+-- a command with the value read stores it again: the registers stay, and phase and totals become 0
+abbrev pub CommandBack : Type 0
+CommandBack =
+    (s : State) (totals : List ℕ) (id v : ℕ) → length totals ≡ 784 → stateSound s totals ≡ true → registerRead (s .registers) id ≡ given v →
+    commandOutcome s totals id v ≡ record { answer = stores v; state = record { registers = s .registers; phase = 0 }; totals = noTotals }
+
+-- ---- ticks
+
+-- rows of disabled processors may hold anything: no answer, state or byte depends on them
+abbrev pub DisabledRows : Type 0
+DisabledRows =
+    (s : State) (totals ps qs out : List ℕ) → length ps ≡ length qs →
+    ((n k : ℕ) → n < 7 → enabledOf (s .registers) n ≡ true → k < 1024 → power ps n k ≡ power qs n k) →
+    tickOutcome s totals ps out ≡ tickOutcome s totals qs out
+
+-- only a report writes output
+abbrev pub IsReport : Reply ℕ → Type 0
+IsReport (refused n) = ⊥
+IsReport (stores v) = ⊥
+IsReport idle = ⊥
+IsReport collected = ⊥
+IsReport waiting = ⊥
+IsReport (reported n) = Unit {0}
+
+abbrev pub OnlyReportsWrite : Type 0
+OnlyReportsWrite =
+    (s : State) (totals ps out : List ℕ) → IsReport (tickOutcome s totals ps out .answer) ⊎ (tickOutcome s totals ps out .out ≡ out)
+
+-- from a sound state no report meets a band mean over 2 ^ 32 - 1, so that refusal 13 never comes
+abbrev pub Never13 : Type 0
+Never13 =
+    (s : State) (totals ps : List ℕ) → stateSound s totals ≡ true → Powers ps → runningOf (s .registers) ≡ true →
+    eqb (s .phase) (averagedSpectra (s .registers) - 1) ≡ true → meansWithin (s .registers) (slot (added (s .registers) totals ps)) ≡ true
+
+-- each word of a report, three bytes of which the last two are its 16 bits, has two legal band codes
+abbrev pub ReportLegal : Type 0
+ReportLegal =
+    (r : Registers) (t : ℕ → ℕ → ℕ) → ((n b : ℕ) → ReportedBand r n b → mean r t n b < 2 ^ 32) →
+    legalWords (bitsFrom 3 (reportBytes r t) 1 (specWords r)) ≡ true
+
+-- ---- demand 3's lists
+
+-- the board at reset is a start of such a list
+abbrev pub ResetBegun : Type 0
+ResetBegun = Begun resetMemory
+
+-- some list of calls does report
+abbrev pub SomeListReports : Type 0
+SomeListReports = (x : Run) × (sp : List (List ℕ)) × Reports x sp
