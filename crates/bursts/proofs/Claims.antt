@@ -12,9 +12,9 @@ use Rattle.lists.proofs.Choices.{by-cases}
 use Rattle.bursts.specs.declared.Slots.{Slots}
 use Rattle.bursts.specs.declared.SlotState.{SlotState}
 use Rattle.bursts.specs.declared.SlotState.the-variants.{Free, Held, Sending}
-use Rattle.bursts.specs.Slots.{slotStateOf, isFree, isSending, heldBelow, smallestHeld, noSlot, sendingSlots, changed}
+use Rattle.bursts.specs.Slots.{slotStateOf, isFree, isSending, heldBelow, smallestHeld, noSlot, sendingSlots, changed, sound, lookedAt, takes, refusedAfter, offerOutcome}
 use Rattle.bursts.specs.Calls.{Call, offer, choose, finish, perform, afterCalls, offers, NoFinish}
-use Rattle.bursts.specs.Claims.{Sound, heldFrom, heldAtLeast, offeredAtLeast, BurstsKept}
+use Rattle.bursts.specs.Claims.{Sound, heldFrom, heldAtLeast, offeredAtLeast, BurstsKept, TurnedAwayExactly}
 use Rattle.bursts.proofs.Rules.{sound-few}
 use Rattle.bursts.proofs.Cases.{offer-cases}
 use Rattle.bursts.proofs.Totals.{passing-changed, passing-le, passing-all, passing-none}
@@ -149,3 +149,18 @@ bursts-kept s ok =
       best-held = λ z xs x. all-best xs s ok z x;
       turned-away-stays = turned-away-stays s ok;
     }
+
+-- ---- turned away, in both directions
+
+takes-refused : {A : Type 0} (i n k m : ℕ) → takes i n ≡ refusedAfter k m → A
+takes-refused i n k m e = let z : _≡_ {A = ℕ} 0 1 = cc in absurd (omega arith)
+
+pub turned-away-exactly : TurnedAwayExactly
+unfolding offerOutcome
+turned-away-exactly s x ok = (only, λ p. rw (ok, p .0, p .1))
+  where
+    only : offerOutcome s x .answer ≡ refusedAfter 25 (lookedAt s) → (noSlot s isFree ≡ true) × (noSlot s (heldBelow x) ≡ true)
+    only e =
+        by-cases (noSlot s isFree)
+        (λ f. by-cases (noSlot s (heldBelow x)) (λ g. (f, g)) (λ g. takes-refused _ _ 25 (lookedAt s) (rw (ok, f, g) at e)))
+        (λ f. takes-refused _ _ 25 (lookedAt s) (rw (ok, f) at e))

@@ -3,13 +3,14 @@ use Prim.Native.Nat.{ℕ, _+_, _<_, min}
 use mathlib.Core.Path.{_≡_}
 use mathlib.Core.Bool.{Bool, true, false, cond}
 use mathlib.Core.List.{List, [], _∷_}
+use mathlib.Core.Logic.{_↔_}
 use lib.ListN.{length}
 use lib.Dec.{leb}
 use Rattle.lists.specs.Sums.{sumTo}
 use Rattle.bursts.specs.declared.SlotState.{SlotState}
 use Rattle.bursts.specs.declared.SlotState.the-variants.{Free, Held, Sending}
 use Rattle.bursts.specs.declared.Slots.{Slots}
-use Rattle.bursts.specs.Slots.{slotStateOf, isFree, heldBelow, noSlot, sendingSlots, sound, lookedAt, becomes, offerOutcome, finishOutcome}
+use Rattle.bursts.specs.Slots.{slotStateOf, isFree, heldBelow, noSlot, sendingSlots, sound, lookedAt, becomes, refusedAfter, offerOutcome, finishOutcome}
 use Rattle.bursts.specs.Calls.{Call, offer, perform, afterCalls, offers, NoFinish}
 
 -- a sound state; every value of the type has 32 slots
@@ -50,6 +51,13 @@ pub record SlotsKept (s : Slots) : Type 0 where
 
 abbrev pub BurstsKept : Type 0
 BurstsKept = (s : Slots) → Sound s → SlotsKept s
+
+-- ---- ticket 9: a block is turned away exactly if no slot is free and no held slot has a smaller criterion
+
+abbrev pub TurnedAwayExactly : Type 0
+TurnedAwayExactly =
+    (s : Slots) (x : ℕ) → sound s ≡ true →
+    (offerOutcome s x .answer ≡ refusedAfter 25 (lookedAt s)) ↔ ((noSlot s isFree ≡ true) × (noSlot s (heldBelow x) ≡ true))
 
 -- ---- ticket 10: two sound states of as many slots that agree as far as an offer looks get the same answer
 

@@ -1,12 +1,12 @@
 -- What is proved of single calls, and that demand 3 speaks of something: proofs/Ticks.antt, Commands.antt, Legal.antt, Invariant.antt and
 -- Witness.antt have it. Demand 3 itself is in Demand.antt.
-use Prim.Native.Nat.{ℕ, _-_, _<_, _^_}
+use Prim.Native.Nat.{ℕ, _-_, _*_, _<_, _^_}
 use mathlib.Core.Path.{_≡_}
 use mathlib.Core.Bool.{true}
-use mathlib.Core.List.{List}
+use mathlib.Core.List.{List, [], _∷_, _++_}
 use mathlib.Core.Logic.{_⊎_}
 use lib.Dec.{eqb}
-use lib.ListN.{length}
+use lib.ListN.{length, getD}
 use Rattle.refusal.specs.Outcome.{given}
 use Rattle.codes.specs.Code.{legalWords}
 use Rattle.registers.specs.Access.{register, registerRead}
@@ -17,8 +17,9 @@ use Rattle.model.specs.Reply.{Reply, refused, stores, idle, collected, w
 use Rattle.model.specs.Totals.{power, slot, noTotals, added}
 use Rattle.model.specs.Report.{mean, reportBytes, meansWithin}
 use Rattle.model.specs.Board.{stateSound, commandOutcome, tickOutcome}
-use Rattle.model.specs.Calls.{Powers}
-use Rattle.model.specs.Demand.{ReportedBand, Begun, resetMemory, Run, Reports}
+use Rattle.model.specs.Reference.{entry, spectraTotal}
+use Rattle.model.specs.Calls.{Powers, inputOf}
+use Rattle.model.specs.Demand.{ReportedBand, printedValue, Begun, resetMemory, Run, modelOf, performed, Reports}
 use Rattle.model.specs.declared.State.{State}
 
 -- ---- commands and reads
@@ -68,6 +69,12 @@ Never13 =
     (s : State) (totals ps : List ℕ) → stateSound s totals ≡ true → Powers ps → runningOf (s .registers) ≡ true →
     eqb (s .phase) (averagedSpectra (s .registers) - 1) ≡ true → meansWithin (s .registers) (slot (added (s .registers) totals ps)) ≡ true
 
+-- a report has three bytes for each of its words, of which the first is the APID of SPEC, 0x4E
+abbrev pub ReportWords : Type 0
+ReportWords =
+    (r : Registers) (t : ℕ → ℕ → ℕ) →
+    (length (reportBytes r t) ≡ 3 * specWords r) × ((j : ℕ) → j < specWords r → getD (reportBytes r t) (3 * j) 0 ≡ 0x4E)
+
 -- each word of a report, three bytes of which the last two are its 16 bits, has two legal band codes
 abbrev pub ReportLegal : Type 0
 ReportLegal =
@@ -83,3 +90,20 @@ ResetBegun = Begun resetMemory
 -- some list of calls does report
 abbrev pub SomeListReports : Type 0
 SomeListReports = (x : Run) × (sp : List (List ℕ)) × Reports x sp
+
+-- some list averages, as in 01, "Numbers on both sides": a tick is collected, and the next one, after the same calls and this tick, reports
+-- on two spectra; a band with a total of 19 is printed as 8
+pub record SomeListAverages : Type 0 where
+  pub earlier : Run
+  pub collects : entry (modelOf earlier) (inputOf (earlier .last)) .reply ≡ collected
+  pub whole : Run
+  pub start : whole .start ≡ earlier .start
+  pub calls : whole .calls ≡ earlier .calls ++ (earlier .last ∷ [])
+  pub spectra : List (List ℕ)
+  pub reports : Reports whole spectra
+  pub two : length spectra ≡ 2
+  pub processor : ℕ
+  pub band : ℕ
+  pub printed : ReportedBand (modelOf whole .registers) processor band
+  pub total : spectraTotal (modelOf whole .registers) spectra processor band ≡ 19
+  pub value : printedValue (modelOf whole .registers) (performed whole .out) processor band ≡ 8
