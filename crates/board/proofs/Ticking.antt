@@ -20,7 +20,8 @@ use Rattle.model.proofs.Phases.{period-lt, held-le, held-reporting}
 use Rattle.model.proofs.SpectraTotals.{bandPower-le}
 use Rattle.model.proofs.Sound.{Sound, sound-parts}
 use Rattle.limits.proofs.Laws.{total-le}
-use Rattle.totals.specs.Adding.{addedModulo}
+use Rattle.refusal.specs.Outcome.{Outcome, given}
+use Rattle.totals.specs.Adding.{TotalsLeft, totalsLeft, addOutcome}
 use Rattle.totals.proofs.Laws.{added-plain}
 use Rattle.board.specs.Private.{Ticking}
 
@@ -35,11 +36,15 @@ module _ (s : State) (totals powers out : List ℕ) (t : Ticking s totals powers
   phase-in = period-lt s (t .is-running) (parts .period)
 
   -- no sum comes to 2 ^ 64
-  pub added-here : Powers powers → addedModulo r totals powers ≡ added r totals powers
+  added-here : Powers powers → addOutcome r totals powers ≡ totalsLeft (given tt) (added r totals powers)
   added-here h =
       added-plain r totals powers
       (λ i l. omega (arith, total-le r (spectraHeld r (s .phase)) totals (omega (arith, held-le r (s .phase))) (parts .totals) i l))
       h (t .totals-length) (t .powers-length)
+
+  -- so what adding leaves is the sums
+  pub sums-here : Powers powers → {a : Outcome (Unit {0})} {sums : List ℕ} → totalsLeft a sums ≡ addOutcome r totals powers → sums ≡ added r totals powers
+  sums-here h e = ap (λ (t : TotalsLeft). t .totals) (e ∙ added-here h)
 
   -- ---- at phase N - 1
 

@@ -5,6 +5,9 @@ use mathlib.Core.Bool.{true}
 use mathlib.Core.List.{List}
 use lib.ListN.{length}
 use Rattle.settings.specs.Settings.{runningOf}
+use Rattle.refusal.specs.Outcome.{Outcome, given}
+use Rattle.refusal.specs.Outcome as outcome
+use Rattle.model.specs.Reply.{Reply, refused, reported}
 use Rattle.model.specs.Totals.{added}
 use Rattle.model.specs.Board.{stateSound, TickOutcome, reportOutcome, runningOutcome}
 use Rattle.model.specs.declared.State.{State}
@@ -23,3 +26,12 @@ reportingTick s totals powers out = reportOutcome s totals (added (s .registers)
 
 abbrev pub runningTick : State → List ℕ → List ℕ → List ℕ → TickOutcome
 runningTick s totals powers out = runningOutcome s totals (added (s .registers) totals powers) out
+
+-- the reply to a report and the state after it, by how writing it went
+abbrev pub reportReply : Outcome ℕ → Reply ℕ
+reportReply (given words) = reported words
+reportReply (outcome.refused n) = refused n
+
+abbrev pub reportState : Outcome ℕ → State → State → State
+reportState (given words) state next = next
+reportState (outcome.refused n) state next = state

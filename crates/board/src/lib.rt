@@ -10,8 +10,10 @@ ghost use Rattle.registers.specs.Access.{isId, registersSound, storedTo};
 ghost use Rattle.settings.specs.Settings.{averagedSpectra, runningOf};
 ghost use Rattle.model.specs.Totals.{noTotals};
 ghost use Rattle.model.specs.Board.{periodSound, spectraHeld, totalsWithin, stateSound, atNextPhase, lengthsFit};
-ghost use Rattle.model.specs.Board.{commandedOutcome, commandOutcome, tickedOutcome, tickOutcome};
-ghost use Rattle.board.specs.Private.{Ticking, reportingTick, runningTick};
+ghost use Rattle.model.specs.Board.{commandedOutcome, commandOutcome, tickReply, tickedOutcome, tickOutcome};
+ghost use Rattle.report.specs.Writing.{reportWordsOutcome};
+ghost use Rattle.board.specs.Private.{Ticking, reportReply, reportState, reportingTick, runningTick};
+use limits::TotalsLimits;
 use limits::totals_within;
 use model::Commanded;
 use model::State;
@@ -20,6 +22,7 @@ use model::Ticked;
 use refusal::Refusal;
 use registers::Answer;
 use registers::Registers;
+use report::ReportWords;
 use report::write_report;
 use totals::add_spectrum;
 
@@ -50,6 +53,19 @@ fn spectra_held(registers: Registers, running: bool, phase: u16) -> u16
     }
 }
 
+// The totals are at most those of as many spectra.
+fn are_within(registers: Registers, totals: &[u64], spectra: u16) -> bool
+    requires { ⌜ length (now totals) ≡ 784 ⌝ }
+    ensures { λ r. ⌜ r ≡ totalsWithin registers spectra (now (totals .entry)) ⌝ }
+{
+    match totals_within(registers, totals, spectra) {
+        TotalsLimits::Within => true,
+        TotalsLimits::Over => false,
+        // Never: there are 784 totals.
+        TotalsLimits::Refused(_) => false,
+    }
+}
+
 fn is_sound(state: State, running: bool, totals: &[u64]) -> bool
     requires { ⌜ running ≡ runningOf (state .registers) ⌝ }
     requires { ⌜ length (now totals) ≡ 784 ⌝ }
@@ -62,7 +78,7 @@ fn is_sound(state: State, running: bool, totals: &[u64]) -> bool
     if !is_period_sound(state, running) {
         return false;
     }
-    totals_within(
+    are_within(
         registers,
         totals,
         spectra_held(registers, running, state.phase),
@@ -138,7 +154,21 @@ fn means_fit(registers: Registers, totals: &[u64]) -> bool
     requires { ⌜ length (now totals) ≡ 784 ⌝ }
     ensures { λ r. ⌜ r ≡ totalsWithin registers (averagedSpectra registers) (now (totals .entry)) ⌝ }
 {
-    totals_within(registers, totals, settings::averaged_spectra(registers))
+    are_within(registers, totals, settings::averaged_spectra(registers))
+}
+
+// The report and the state after it.
+fn reported_tick(words: ReportWords, state: State, next: State) -> Ticked
+    ensures { λ r. ⌜ (tickReply (r .answer) ≡ reportReply (reportWordsOutcome words)) × (r .state ≡ reportState (reportWordsOutcome words) state next) ⌝ }
+{
+    match words {
+        ReportWords::Count(count) => Ticked {
+            answer: TickAnswer::Reported(count),
+            state: next,
+        },
+        // Never: the lists have their lengths.
+        ReportWords::Refused(refusal) => refused_tick(state, refusal),
+    }
 }
 
 // A tick at phase N - 1, with the state after it. Refused by 13, which no sound state comes to: the totals have the powers added by then.
@@ -161,10 +191,7 @@ fn reporting_tick(
     }
     let words = write_report(registers, totals, out);
     clear(totals);
-    Ticked {
-        answer: TickAnswer::Reported(words),
-        state: next,
-    }
+    reported_tick(words, state, next)
 }
 
 // A tick of a running board.

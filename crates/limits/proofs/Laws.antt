@@ -12,11 +12,12 @@ use Rattle.settings.specs.Settings.{settingOf, bandsOf, enabledOf}
 use Rattle.registers.specs.declared.Registers.{Registers}
 use Rattle.model.specs.Totals.{inUse}
 use Rattle.model.specs.Board.{slotLimit, totalsWithin}
+use Rattle.refusal.specs.Outcome.{given}
 use Rattle.limits.specs.Within.{within}
 use Rattle.limits.specs.Claims.{SoundTotals}
 use Rattle.limits.proofs.Limiting.{limit-le}
 
-pub within-784 : (r : Registers) (m : ℕ) (totals : List ℕ) → length totals ≡ 784 → within r m totals ≡ totalsWithin r m totals
+pub within-784 : (r : Registers) (m : ℕ) (totals : List ℕ) → length totals ≡ 784 → within r m totals ≡ given (totalsWithin r m totals)
 unfolding within
 within-784 r m totals e = rw (eq-eqb (length totals) 784 e)
 

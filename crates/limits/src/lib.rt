@@ -4,10 +4,19 @@ ghost use Prim.Native.Nat.{_*_, _^_, _-_, _<_, _≤_};
 ghost use lib.ListN.{length, replicate};
 ghost use Rattle.registers.specs.Store.{bandCount};
 ghost use Rattle.settings.specs.Settings.{bandsOf};
-ghost use Rattle.limits.specs.Within.{within};
+ghost use Rattle.model.specs.Board.{totalsWithin};
+ghost use Rattle.limits.specs.Within.{limitsOutcome, within};
 ghost use Rattle.limits.specs.Private.{allZero, allWithin, rowWithin, slotsWithin, Limits};
 use model::State;
+use refusal::Refusal;
 use registers::Registers;
+
+// Whether totals are at most those of so many spectra, or the refusal.
+pub enum TotalsLimits {
+    Within,
+    Over,
+    Refused(Refusal),
+}
 
 // Every total is 0.
 fn all_zero(totals: &[u64]) -> bool
@@ -82,13 +91,11 @@ fn rows_within(registers: Registers, bands: usize, limits: &[u64], totals: &[u64
     within
 }
 
-// There are 784 totals, and they are at most those of as many spectra.
-pub fn totals_within(registers: Registers, totals: &[u64], spectra: u16) -> bool
-    ensures { λ r. ⌜ r ≡ within registers spectra (now (totals .entry)) ⌝ }
+// The totals are at most those of as many spectra.
+fn are_within(registers: Registers, totals: &[u64], spectra: u16) -> bool
+    requires { ⌜ length (now totals) ≡ 784 ⌝ }
+    ensures { λ r. ⌜ r ≡ totalsWithin registers spectra (now (totals .entry)) ⌝ }
 {
-    if totals.len() != State::TOTALS {
-        return false;
-    }
     if spectra == 0 {
         return all_zero(totals);
     }
@@ -102,4 +109,18 @@ pub fn totals_within(registers: Registers, totals: &[u64], spectra: u16) -> bool
         count,
     );
     rows_within(registers, bands, &limits, totals)
+}
+
+// Whether the totals are at most those of as many spectra. Refused by 2 for another number of totals than 784.
+pub fn totals_within(registers: Registers, totals: &[u64], spectra: u16) -> TotalsLimits
+    ensures { λ r. ⌜ limitsOutcome r ≡ within registers spectra (now (totals .entry)) ⌝ }
+{
+    if totals.len() != State::TOTALS {
+        return TotalsLimits::Refused(Refusal::WrongLength);
+    }
+    if are_within(registers, totals, spectra) {
+        TotalsLimits::Within
+    } else {
+        TotalsLimits::Over
+    }
 }

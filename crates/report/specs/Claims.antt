@@ -6,13 +6,14 @@ use mathlib.Core.List.{List}
 use lib.ListN.{length}
 use Rattle.lists.specs.Tables.{overwrite}
 use Rattle.settings.specs.Settings.{specWords}
+use Rattle.refusal.specs.Outcome.{given}
 use Rattle.registers.specs.declared.Registers.{Registers}
 use Rattle.model.specs.Totals.{slot}
 use Rattle.model.specs.Report.{reportBytes, meansWithin}
-use Rattle.report.specs.Writing.{reportWritten}
+use Rattle.report.specs.Writing.{reportLeft, reportWritten}
 
 -- where no mean is over 2 ^ 32 - 1, the words are those of the totals
 abbrev pub WrittenPlain : Type 0
 WrittenPlain =
     (r : Registers) (totals : List ℕ) → meansWithin r (slot totals) ≡ true → (out : List ℕ) → length totals ≡ 784 → 1176 ≤ length out →
-    reportWritten r totals out ≡ record { words = specWords r; out = overwrite (reportBytes r (slot totals)) out }
+    reportWritten r totals out ≡ reportLeft (given (specWords r)) (overwrite (reportBytes r (slot totals)) out)

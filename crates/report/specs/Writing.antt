@@ -1,13 +1,16 @@
 -- 01, "Words and sets" (SPEC): what writing a report leaves. Wherever no mean is over 2 ^ 32 - 1, the words are `reportBytes` of the totals,
 -- as crate `model` has it (`WrittenPlain` of Claims.antt).
 use Prim.Native.Nat.{ℕ, _*_, _%_, _^_}
-use mathlib.Core.Bool.{cond, _&&_}
+use mathlib.Core.Bool.{cond, not, _&&_}
 use mathlib.Core.List.{List}
 use lib.ListN.{length}
 use lib.Dec.{leb, eqb}
 use Rattle.lists.specs.Tables.{overwrite}
 use Rattle.settings.specs.Settings.{specWords}
+use Rattle.refusal.specs.Number.{numberOf}
+use Rattle.refusal.specs.Outcome.{Outcome, given, refused}
 use Rattle.registers.specs.declared.Registers.{Registers}
+use Rattle.report.specs.declared.ReportWords.{ReportWords}
 use Rattle.model.specs.Totals.{slot}
 use Rattle.model.specs.Report.{divisor, reportBytes}
 
@@ -15,14 +18,20 @@ use Rattle.model.specs.Report.{divisor, reportBytes}
 abbrev pub meanBits : Registers → List ℕ → ℕ → ℕ → ℕ
 meanBits r totals n b = slot totals n b % (2 ^ 32 * divisor r b)
 
--- what writing a report leaves: how many words, and the output
+-- what writing a report leaves: how many words or the refusal, and the output
 pub record ReportLeft : Type 0 where
-  pub words : ℕ
+  pub words : Outcome ℕ
   pub out : List ℕ
 
--- the words of 784 totals over the start of the output; nothing where a list is not of its length
+abbrev pub reportLeft : Outcome ℕ → List ℕ → ReportLeft
+reportLeft words out = record { words = words; out = out }
+
+abbrev pub reportWordsOutcome : ReportWords → Outcome ℕ
+reportWordsOutcome (ReportWords.Count n) = given n
+reportWordsOutcome (ReportWords.Refused n) = refused (numberOf n)
+
+-- the words of 784 totals over the start of the output; 2 where a list is not of its length
 unfoldable pub reportWritten : Registers → List ℕ → List ℕ → ReportLeft
 reportWritten r totals out =
-    cond (eqb (length totals) 784 && leb 1176 (length out))
-    (record { words = specWords r; out = overwrite (reportBytes r (meanBits r totals)) out })
-    (record { words = 0; out = out })
+    cond (not (eqb (length totals) 784 && leb 1176 (length out))) (reportLeft (refused 2) out)
+    (reportLeft (given (specWords r)) (overwrite (reportBytes r (meanBits r totals)) out))

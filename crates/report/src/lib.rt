@@ -9,10 +9,17 @@ ghost use Rattle.registers.specs.Store.{bandCount};
 ghost use Rattle.codes.specs.Code.{bandCode};
 ghost use Rattle.settings.specs.Settings.{averagedSpectra, specWords};
 ghost use Rattle.model.specs.Report.{reportBytes};
-ghost use Rattle.report.specs.Writing.{meanBits, reportWritten};
+ghost use Rattle.report.specs.Writing.{meanBits, reportWordsOutcome, reportLeft, reportWritten};
 ghost use Rattle.report.specs.Private.{rowMean, rowBytes, ProcessorLeft};
 use model::State;
+use refusal::Refusal;
 use registers::Registers;
+
+// The number of words of a report, or the refusal.
+pub enum ReportWords {
+    Count(u16),
+    Refused(Refusal),
+}
 
 // NAVG: N is 2 to its power.
 fn averaged_exponent(registers: Registers) -> u32
@@ -123,15 +130,16 @@ fn write_rows(registers: Registers, totals: &[u64], out: &mut [u8]) -> usize
     written
 }
 
-// Writes the words of a report over the start of out; the answer is how many. Nothing is written where there are not 784 totals, or where out is shorter than the longest report.
-pub fn write_report(registers: Registers, totals: &[u64], out: &mut [u8]) -> u16
-    ensures { λ r. ⌜ record { words = r; out = now (out .exit) } ≡ reportWritten registers (now (totals .entry)) (now (out .entry)) ⌝ }
+// Writes the words of a report, of means modulo 2^32, over the start of out; answers how many. Refused by 2 for another number of totals
+// than 784, or an output shorter than the longest report.
+pub fn write_report(registers: Registers, totals: &[u64], out: &mut [u8]) -> ReportWords
+    ensures { λ r. ⌜ reportLeft (reportWordsOutcome r) (now (out .exit)) ≡ reportWritten registers (now (totals .entry)) (now (out .entry)) ⌝ }
 {
     if totals.len() != State::TOTALS {
-        return 0;
+        return ReportWords::Refused(Refusal::WrongLength);
     }
     if out.len() < State::OUTPUT {
-        return 0;
+        return ReportWords::Refused(Refusal::WrongLength);
     }
-    write_rows(registers, totals, out) as u16
+    ReportWords::Count(write_rows(registers, totals, out) as u16)
 }

@@ -5,11 +5,18 @@ ghost use Prim.Native.Nat.{_≤_};
 ghost use lib.ListN.{length, getD};
 ghost use Rattle.lists.specs.Sums.{sumTo};
 ghost use Rattle.lists.specs.Tables.{grid};
-ghost use Rattle.totals.specs.Adding.{addedSlot, addedModulo};
+ghost use Rattle.totals.specs.Adding.{addedSlot, addedOutcome, totalsLeft, addOutcome};
 ghost use Rattle.totals.specs.Private.{addedRun, addedRow, BandsOfWidth};
 use model::State;
+use refusal::Refusal;
 use registers::Registers;
 use std::num::wrapping_add_u64;
+
+// The powers are added, or the refusal.
+pub enum Added {
+    Done,
+    Refused(Refusal),
+}
 
 // The sum of a run of powers.
 fn sum(bins: &[u32]) -> u64
@@ -99,11 +106,16 @@ fn add_rows(registers: Registers, totals: &mut [u64], powers: &[u32])
     }
 }
 
-// Adds the powers of one tick, modulo 2^64. Lists of other lengths than 784 and 7,168 stay as they are.
-pub fn add_spectrum(registers: Registers, totals: &mut [u64], powers: &[u32])
-    ensures { λ _. ⌜ now (totals .exit) ≡ addedModulo registers (now (totals .entry)) (now (powers .entry)) ⌝ }
+// Adds the powers of one tick, modulo 2^64. Refused by 2 for other numbers of totals and powers than 784 and 7,168.
+pub fn add_spectrum(registers: Registers, totals: &mut [u64], powers: &[u32]) -> Added
+    ensures { λ r. ⌜ totalsLeft (addedOutcome r) (now (totals .exit)) ≡ addOutcome registers (now (totals .entry)) (now (powers .entry)) ⌝ }
 {
-    if (totals.len() == State::TOTALS) & (powers.len() == State::POWERS) {
-        add_rows(registers, totals, powers);
+    if totals.len() != State::TOTALS {
+        return Added::Refused(Refusal::WrongLength);
     }
+    if powers.len() != State::POWERS {
+        return Added::Refused(Refusal::WrongLength);
+    }
+    add_rows(registers, totals, powers);
+    Added::Done
 }

@@ -1,6 +1,4 @@
 -- `board::is_sound` meets its contract. Assumes nothing.
-use mathlib.Core.Path.{_∙_}
-use Rattle.limits.proofs.Laws.{within-784}
 use Rattle.model.specs.Board.{stateSound}
 use borrow.Author.Tests.{not-true, not-false}
 use borrow.Author.Needs.{needs}
@@ -24,7 +22,6 @@ returns-2 c =
 returns-3 : tie.Need-returns-3
 unfolding stateSound
 returns-3 c =
-    let a = c .before .before .before .before .before .before .before .before .args in
     rw (
       ← c .before .before .before .before .before .is-sound .ensures,
       not-false (c .before .before .before .before .before .is-sound .result) (c .before .before .before .before .if1 .left),
@@ -32,7 +29,7 @@ returns-3 c =
       not-false (c .before .before .before .is-period-sound .result) (c .before .before .if2 .left),
       ← c .before .spectra-held .ensures,
     )
-    (c .totals-within .ensures ∙ within-784 (a .state .registers) (c .before .spectra-held .result) (a .totals .now) (c .before .before .before .before .before .before .before .before .pre .1))
+    (c .are-within .ensures)
 
 pub is-sound-spec : {M : Type 1} → statement M
 is-sound-spec =

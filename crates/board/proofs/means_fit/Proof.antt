@@ -2,7 +2,6 @@
 use Prim.Native.Nat.{ℕ}
 use mathlib.Core.Path.{ap, _∙_}
 use Rattle.model.specs.Board.{totalsWithin}
-use Rattle.limits.proofs.Laws.{within-784}
 use borrow.Author.Needs.{needs}
 use Rattle.board.proofs.means_fit.Statement.{statement}
 use Rattle.board.proofs.means_fit.Tie as tie
@@ -10,8 +9,7 @@ use Rattle.board.proofs.means_fit.Tie as tie
 returns : tie.Need-returns
 returns c =
     let a = c .before .before .before .args in
-    c .totals-within .ensures
-    ∙ within-784 (a .registers) (c .before .averaged-spectra .result) (a .totals .now) (c .before .before .before .pre)
+    c .are-within .ensures
     ∙ ap (λ (m : ℕ). totalsWithin (a .registers) m (a .totals .now)) (c .before .averaged-spectra .ensures)
 
 pub means-fit-spec : {M : Type 1} → statement M

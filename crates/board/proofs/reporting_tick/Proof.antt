@@ -12,9 +12,11 @@ use Rattle.model.specs.Board.{reportOutcome}
 use Rattle.model.specs.Calls.{Powers}
 use Rattle.model.proofs.Ticks.{never-13}
 use Rattle.totals.proofs.Laws.{length-added}
+use Rattle.refusal.specs.Outcome.{Outcome}
 use Rattle.report.specs.Writing.{ReportLeft, reportWritten}
 use Rattle.report.proofs.Laws.{written-plain}
-use Rattle.board.proofs.Ticking.{added-here, added-within}
+use Rattle.board.specs.Private.{reportReply, reportState}
+use Rattle.board.proofs.Ticking.{sums-here, added-within}
 use borrow.Author.Needs.{needs}
 use Rattle.board.proofs.reporting_tick.Statement.{statement}
 use Rattle.board.proofs.reporting_tick.Tie as tie
@@ -33,14 +35,14 @@ means-fit-requires : tie.Need-means-fit-requires
 means-fit-requires c κs =
     let a = c .before .before .before .before .before .before .before .before .before .args in
     let t = c .before .before .before .before .before .before .before .before .before .pre .0 in
-    ap length (c .before .before .before .add-spectrum .ensures ∙ added-here (a .state) (a .totals .now) (a .powers .now) (a .out .now) t (powers-fit (c .before .before .before .before .before .before .before))) ∙ length-added _ _ _
+    ap length (sums-here (a .state) (a .totals .now) (a .powers .now) (a .out .now) t (powers-fit (c .before .before .before .before .before .before .before)) (c .before .before .before .add-spectrum .ensures)) ∙ length-added _ _ _
 
 returns : tie.Need-returns
 returns c =
     let a = c .before .before .before .before .before .before .before .before .before .before .before .before .args in
     let p = c .before .before .before .before .before .before .before .before .before .before .before .before .pre in
     let fit = powers-fit (c .before .before .before .before .before .before .before .before .before .before) in
-    let sums = c .before .before .before .before .before .before .add-spectrum .ensures ∙ added-here (a .state) (a .totals .now) (a .powers .now) (a .out .now) (p .0) fit in
+    let sums = sums-here (a .state) (a .totals .now) (a .powers .now) (a .out .now) (p .0) fit (c .before .before .before .before .before .before .add-spectrum .ensures) in
     absurd (true≢false
     (sym (added-within (a .state) (a .totals .now) (a .powers .now) (a .out .now) (p .0) fit (p .1 .0))
     ∙ sym (rw sums at (c .before .before .means-fit .ensures))
@@ -50,24 +52,26 @@ clear-requires : tie.Need-clear-requires
 clear-requires c κs =
     let a = c .before .before .before .before .before .before .before .before .before .before .before .before .before .before .before .before .before .args in
     let t = c .before .before .before .before .before .before .before .before .before .before .before .before .before .before .before .before .before .pre .0 in
-    ap length (c .before .before .before .before .before .before .before .before .before .before .before .add-spectrum .ensures ∙ added-here (a .state) (a .totals .now) (a .powers .now) (a .out .now) t (powers-fit (c .before .before .before .before .before .before .before .before .before .before .before .before .before .before .before))) ∙ length-added _ _ _
+    ap length (sums-here (a .state) (a .totals .now) (a .powers .now) (a .out .now) t (powers-fit (c .before .before .before .before .before .before .before .before .before .before .before .before .before .before .before)) (c .before .before .before .before .before .before .before .before .before .before .before .add-spectrum .ensures)) ∙ length-added _ _ _
 
 returns-2 : tie.Need-returns-2
 unfolding reportOutcome
 returns-2 c =
-    let a = c .before .before .before .before .before .before .before .before .before .before .before .before .before .before .before .before .before .before .before .before .args in
-    let p = c .before .before .before .before .before .before .before .before .before .before .before .before .before .before .before .before .before .before .before .before .pre in
-    let known = c .before .before .before .before .before .before .before .before .before .before .before .before .before .before .before .before .before .before in
-    let sums = c .before .before .before .before .before .before .before .before .before .before .before .before .before .before .add-spectrum .ensures ∙ added-here (a .state) (a .totals .now) (a .powers .now) (a .out .now) (p .0) (powers-fit known) in
+    let a = c .before .before .before .before .before .before .before .before .before .before .before .before .before .before .before .before .before .before .before .before .before .args in
+    let p = c .before .before .before .before .before .before .before .before .before .before .before .before .before .before .before .before .before .before .before .before .before .pre in
+    let known = c .before .before .before .before .before .before .before .before .before .before .before .before .before .before .before .before .before .before .before in
+    let sums = sums-here (a .state) (a .totals .now) (a .powers .now) (a .out .now) (p .0) (powers-fit known) (c .before .before .before .before .before .before .before .before .before .before .before .before .before .before .before .add-spectrum .ensures) in
     let written =
-    c .before .before .before .before .before .before .write-report .ensures
+    c .before .before .before .before .before .before .before .write-report .ensures
     ∙ ap (λ (t : List ℕ). reportWritten (a .state .registers) t (a .out .now)) sums
     ∙ written-plain (a .state .registers) (added (a .state .registers) (a .totals .now) (a .powers .now)) (means known) (a .out .now) (length-added _ _ _) (p .0 .room) in
+    let count = ap (λ (w : ReportLeft). w .words) written in
     simp (
       means known,
-      ap (λ (w : ReportLeft). w .words) written,
+      c .reported-tick .ensures .0 ∙ ap reportReply count,
+      c .reported-tick .ensures .1 ∙ ap (λ (o : Outcome ℕ). reportState o (a .state) (a .next)) count,
       ap (λ (w : ReportLeft). w .out) written,
-      c .before .before .clear .ensures,
+      c .before .before .before .clear .ensures,
       p .1 .1,
     )
 
@@ -82,6 +86,7 @@ reporting-tick-spec =
     returns
     (λ c κs. search needs)
     clear-requires
+    (λ c κs. search needs)
     (λ c. search needs)
     (λ c. search needs)
     returns-2)

@@ -8,7 +8,7 @@ use borrow.Author.Tests.{eq-eqb, ne-eqb, lt-ltb, le-ltb}
 use Rattle.settings.specs.Settings.{averagedSpectra}
 use Rattle.settings.proofs.Settings.{averaged-pos, period-pos, period-le}
 use Rattle.model.specs.Board.{atNextPhase, runningOutcome}
-use Rattle.board.proofs.Ticking.{phase-in, added-here}
+use Rattle.board.proofs.Ticking.{phase-in, sums-here}
 use borrow.Author.Needs.{needs}
 use Rattle.board.proofs.running_tick.Statement.{statement}
 use Rattle.board.proofs.running_tick.Tie as tie
@@ -42,8 +42,7 @@ returns c =
     rw (
       before-last,
       ← moves (c .before .before .before .before .before),
-      c .before .before .add-spectrum .ensures,
-      added-here s (a .totals .now) (a .powers .now) (a .out .now) (c .before .before .before .before .before .before .before .before .before .before .before .before .pre) (λ i. omega (arith, c .before .before .before .before .before .before .before .before .before .before .shared-slice-known .given i)),
+      sums-here s (a .totals .now) (a .powers .now) (a .out .now) (c .before .before .before .before .before .before .before .before .before .before .before .before .pre) (λ i. omega (arith, c .before .before .before .before .before .before .before .before .before .before .shared-slice-known .given i)) (c .before .before .add-spectrum .ensures),
     )
 
 reporting-tick-requires : tie.Need-reporting-tick-requires

@@ -1,15 +1,7 @@
--- `limits::totals_within` meets its contract. Assumes nothing.
-use Prim.Native.Nat.{ℕ, _≤_}
-use lib.ListN.{replicate}
-use native.Mathlib.Omega.{arith}
-use mathlib.Core.Path.{ap, sym, _∙_, subst}
+-- `limits::totals_within` meets its contract: the tests pick the case of `within`. Assumes nothing.
+use mathlib.Core.Path.{_∙_, sym}
 use borrow.Author.Tests.{eq-eqb, ne-eqb}
-use Rattle.registers.specs.Store.{bandCount}
-use Rattle.settings.proofs.Settings.{setting-le}
-use Rattle.model.specs.Board.{totalsWithin}
 use Rattle.limits.specs.Within.{within}
-use Rattle.limits.specs.Private.{Limits}
-use Rattle.limits.proofs.Limiting.{zero-slots, limited-slots}
 use borrow.Author.Needs.{needs}
 use Rattle.limits.proofs.totals_within.Statement.{statement}
 use Rattle.limits.proofs.totals_within.Tie as tie
@@ -20,46 +12,11 @@ returns c = rw (ne-eqb _ _ (c .if1 .taken))
 
 returns-2 : tie.Need-returns-2
 unfolding within
-returns-2 c =
-    let a = c .before .before .before .before .args in
-    let long = c .before .before .if1 .left in
-    rw (eq-eqb _ _ long)
-    (c .all-zero .ensures ∙ zero-slots (a .registers) (a .totals .now) long
-    ∙ ap (λ (m : ℕ). totalsWithin (a .registers) m (a .totals .now)) (sym (c .before .if2 .taken)))
-
-double-octaves-requires : tie.Need-double-octaves-requires
-double-octaves-requires c κs =
-    let a = c .before .before .before .before .before .before .args in (
-      subst (λ (x : ℕ). x ≤ 2) (sym (c .bin-setting .ensures)) (setting-le (a .registers)),
-      (c .before .before .bands .ensures ∙ ap bandCount (sym (c .bin-setting .ensures)), (search needs, ap (λ (x : ℕ). replicate {A = ℕ} 112 x) (omega arith))),
-    )
-
-rows-within-requires : tie.Need-rows-within-requires
-rows-within-requires c κs = (c .before .before .before .before .before .bands .ensures, (c .before .before .double-octaves .ensures .limits-length, c .before .before .before .before .before .before .before .if1 .left))
+returns-2 c = rw (eq-eqb _ _ (c .before .before .if1 .left), sym (c .before .are-within .ensures) ∙ c .if2 .taken)
 
 returns-3 : tie.Need-returns-3
 unfolding within
-returns-3 c =
-    let a = c .before .before .before .before .before .before .before .before .before .before .args in
-    let l = c .before .before .before .double-octaves in
-    rw (eq-eqb _ _ (c .before .before .before .before .before .before .before .before .if1 .left))
-    (c .rows-within .ensures
-    ∙ limited-slots (a .registers) (a .spectra) (l .last .0) (a .totals .now)
-    (subst (λ (x : ℕ). Limits x (a .spectra) (l .last .0)) (c .before .before .before .before .bin-setting .ensures) (l .ensures)))
+returns-3 c = rw (eq-eqb _ _ (c .before .before .if1 .left), sym (c .before .are-within .ensures) ∙ c .if2 .left)
 
 pub totals-within-spec : {M : Type 1} → statement M
-totals-within-spec =
-    tie.close
-    (tie.spec
-    returns
-    (λ c κs. search needs)
-    returns-2
-    (λ c κs. search needs)
-    (λ c. search needs)
-    (λ c. search needs)
-    (λ c κs. search needs)
-    (λ c. search needs)
-    double-octaves-requires
-    (λ c. search needs)
-    rows-within-requires
-    returns-3)
+totals-within-spec = tie.close (tie.spec returns (λ c κs. search needs) returns-2 returns-3)

@@ -1,26 +1,26 @@
--- `totals::add_spectrum` meets its contract. Assumes nothing.
-use lib.Dec.{eqb}
-use lib.ListN.{length}
-use borrow.Author.Tests.{eqb-true}
-use Rattle.lists.proofs.Choices.{both}
-use Rattle.totals.specs.Adding.{addedModulo}
+-- `totals::add_spectrum` meets its contract: the tests pick the case of `addOutcome`. Assumes nothing.
+use borrow.Author.Tests.{eq-eqb, ne-eqb}
+use Rattle.totals.specs.Adding.{addOutcome}
 use borrow.Author.Needs.{needs}
 use Rattle.totals.proofs.add_spectrum.Statement.{statement}
 use Rattle.totals.proofs.add_spectrum.Tie as tie
 
-add-rows-requires : tie.Need-add-rows-requires
-add-rows-requires c κs =
-    let a = c .before .before .before .before .args in
-    let e = both (eqb (length (a .totals .now)) 784) (eqb (length (a .powers .now)) 7168) (c .before .if1 .taken) in
-    (eqb-true _ _ (e .0), eqb-true _ _ (e .1))
-
 returns : tie.Need-returns
-unfolding addedModulo
-returns c = rw (c .before .before .before .before .if1 .taken) (c .before .before .add-rows .ensures)
+unfolding addOutcome
+returns c = rw (ne-eqb _ _ (c .if1 .taken))
 
 returns-2 : tie.Need-returns-2
-unfolding addedModulo
-returns-2 c = rw (c .if1 .left)
+unfolding addOutcome
+returns-2 c = rw (eq-eqb _ _ (c .before .if1 .left), ne-eqb _ _ (c .if2 .taken))
+
+returns-3 : tie.Need-returns-3
+unfolding addOutcome
+returns-3 c =
+    rw (
+      eq-eqb _ _ (c .before .before .before .before .before .if1 .left),
+      eq-eqb _ _ (c .before .before .before .before .if2 .left),
+      c .before .before .add-rows .ensures,
+    )
 
 pub add-spectrum-spec : {M : Type 1} → statement M
-add-spectrum-spec = tie.close (tie.spec add-rows-requires (λ c. search needs) returns returns-2)
+add-spectrum-spec = tie.close (tie.spec returns returns-2 (λ c κs. search needs) (λ c. search needs) returns-3)
