@@ -11,7 +11,7 @@ ghost use Rattle.settings.specs.Settings.{averagedSpectra, runningOf};
 ghost use Rattle.model.specs.Totals.{noTotals};
 ghost use Rattle.model.specs.Board.{periodSound, spectraHeld, totalsWithin, stateSound, atNextPhase, lengthsFit};
 ghost use Rattle.model.specs.Board.{commandedOutcome, commandOutcome, tickReply, tickedOutcome, tickOutcome};
-ghost use Rattle.report.specs.Writing.{reportWordsOutcome};
+ghost use Rattle.report.specs.Writing.{wordCountOutcome};
 ghost use Rattle.board.specs.Private.{Ticking, reportReply, reportState, reportingTick, runningTick};
 use limits::TotalsLimits;
 use limits::totals_within;
@@ -22,7 +22,7 @@ use model::Ticked;
 use refusal::Refusal;
 use registers::Answer;
 use registers::Registers;
-use report::ReportWords;
+use report::WordCount;
 use report::write_report;
 use totals::add_spectrum;
 
@@ -158,16 +158,16 @@ fn means_fit(registers: Registers, totals: &[u64]) -> bool
 }
 
 // The report and the state after it.
-fn reported_tick(words: ReportWords, state: State, next: State) -> Ticked
-    ensures { λ r. ⌜ (tickReply (r .answer) ≡ reportReply (reportWordsOutcome words)) × (r .state ≡ reportState (reportWordsOutcome words) state next) ⌝ }
+fn reported_tick(words: WordCount, state: State, next: State) -> Ticked
+    ensures { λ r. ⌜ (tickReply (r .answer) ≡ reportReply (wordCountOutcome words)) × (r .state ≡ reportState (wordCountOutcome words) state next) ⌝ }
 {
     match words {
-        ReportWords::Count(count) => Ticked {
+        WordCount::Words(count) => Ticked {
             answer: TickAnswer::Reported(count),
             state: next,
         },
         // Never: the lists have their lengths.
-        ReportWords::Refused(refusal) => refused_tick(state, refusal),
+        WordCount::Refused(refusal) => refused_tick(state, refusal),
     }
 }
 

@@ -10,7 +10,7 @@ use Rattle.settings.specs.Settings.{specWords}
 use Rattle.refusal.specs.Number.{numberOf}
 use Rattle.refusal.specs.Outcome.{Outcome, given, refused}
 use Rattle.registers.specs.declared.Registers.{Registers}
-use Rattle.report.specs.declared.ReportWords.{ReportWords}
+use Rattle.report.specs.declared.WordCount.{WordCount}
 use Rattle.model.specs.Totals.{slot}
 use Rattle.model.specs.Report.{divisor, reportBytes}
 
@@ -26,9 +26,9 @@ pub record ReportLeft : Type 0 where
 abbrev pub reportLeft : Outcome ℕ → List ℕ → ReportLeft
 reportLeft words out = record { words = words; out = out }
 
-abbrev pub reportWordsOutcome : ReportWords → Outcome ℕ
-reportWordsOutcome (ReportWords.Count n) = given n
-reportWordsOutcome (ReportWords.Refused n) = refused (numberOf n)
+abbrev pub wordCountOutcome : WordCount → Outcome ℕ
+wordCountOutcome (WordCount.Words n) = given n
+wordCountOutcome (WordCount.Refused n) = refused (numberOf n)
 
 -- the words of 784 totals over the start of the output; 2 where a list is not of its length
 unfoldable pub reportWritten : Registers → List ℕ → List ℕ → ReportLeft

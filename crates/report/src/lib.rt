@@ -9,15 +9,15 @@ ghost use Rattle.registers.specs.Store.{bandCount};
 ghost use Rattle.codes.specs.Code.{bandCode};
 ghost use Rattle.settings.specs.Settings.{averagedSpectra, specWords};
 ghost use Rattle.model.specs.Report.{reportBytes};
-ghost use Rattle.report.specs.Writing.{meanBits, reportWordsOutcome, reportLeft, reportWritten};
+ghost use Rattle.report.specs.Writing.{meanBits, wordCountOutcome, reportLeft, reportWritten};
 ghost use Rattle.report.specs.Private.{rowMean, rowBytes, ProcessorLeft};
 use model::State;
 use refusal::Refusal;
 use registers::Registers;
 
 // The number of words of a report, or the refusal.
-pub enum ReportWords {
-    Count(u16),
+pub enum WordCount {
+    Words(u16),
     Refused(Refusal),
 }
 
@@ -132,14 +132,14 @@ fn write_rows(registers: Registers, totals: &[u64], out: &mut [u8]) -> usize
 
 // Writes the words of a report, of means modulo 2^32, over the start of out; answers how many. Refused by 2 for another number of totals
 // than 784, or an output shorter than the longest report.
-pub fn write_report(registers: Registers, totals: &[u64], out: &mut [u8]) -> ReportWords
-    ensures { λ r. ⌜ reportLeft (reportWordsOutcome r) (now (out .exit)) ≡ reportWritten registers (now (totals .entry)) (now (out .entry)) ⌝ }
+pub fn write_report(registers: Registers, totals: &[u64], out: &mut [u8]) -> WordCount
+    ensures { λ r. ⌜ reportLeft (wordCountOutcome r) (now (out .exit)) ≡ reportWritten registers (now (totals .entry)) (now (out .entry)) ⌝ }
 {
     if totals.len() != State::TOTALS {
-        return ReportWords::Refused(Refusal::WrongLength);
+        return WordCount::Refused(Refusal::WrongLength);
     }
     if out.len() < State::OUTPUT {
-        return ReportWords::Refused(Refusal::WrongLength);
+        return WordCount::Refused(Refusal::WrongLength);
     }
-    ReportWords::Count(write_rows(registers, totals, out) as u16)
+    WordCount::Words(write_rows(registers, totals, out) as u16)
 }
