@@ -157,10 +157,10 @@ takes-refused i n k m e = let z : _≡_ {A = ℕ} 0 1 = cc in absurd (omega arit
 
 pub turned-away-exactly : TurnedAwayExactly
 unfolding offerOutcome
-turned-away-exactly s x ok = (only, λ p. rw (ok, p .0, p .1))
+turned-away-exactly s x ok = (λ t. only (t .0) (t .1), λ p. (lookedAt s, rw (ok, p .0, p .1)))
   where
-    only : offerOutcome s x .answer ≡ refusedAfter 25 (lookedAt s) → (noSlot s isFree ≡ true) × (noSlot s (heldBelow x) ≡ true)
-    only e =
+    only : (looked : ℕ) → offerOutcome s x .answer ≡ refusedAfter 25 looked → (noSlot s isFree ≡ true) × (noSlot s (heldBelow x) ≡ true)
+    only looked e =
         by-cases (noSlot s isFree)
-        (λ f. by-cases (noSlot s (heldBelow x)) (λ g. (f, g)) (λ g. takes-refused _ _ 25 (lookedAt s) (rw (ok, f, g) at e)))
-        (λ f. takes-refused _ _ 25 (lookedAt s) (rw (ok, f) at e))
+        (λ f. by-cases (noSlot s (heldBelow x)) (λ g. (f, g)) (λ g. takes-refused _ _ 25 looked (rw (ok, f, g) at e)))
+        (λ f. takes-refused _ _ 25 looked (rw (ok, f) at e))

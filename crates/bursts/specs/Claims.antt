@@ -57,7 +57,7 @@ BurstsKept = (s : Slots) → Sound s → SlotsKept s
 abbrev pub TurnedAwayExactly : Type 0
 TurnedAwayExactly =
     (s : Slots) (x : ℕ) → sound s ≡ true →
-    (offerOutcome s x .answer ≡ refusedAfter 25 (lookedAt s)) ↔ ((noSlot s isFree ≡ true) × (noSlot s (heldBelow x) ≡ true))
+    ((looked : ℕ) × (offerOutcome s x .answer ≡ refusedAfter 25 looked)) ↔ ((noSlot s isFree ≡ true) × (noSlot s (heldBelow x) ≡ true))
 
 -- ---- ticket 10: two sound states of as many slots that agree as far as an offer looks get the same answer
 

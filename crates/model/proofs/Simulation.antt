@@ -79,17 +79,21 @@ module _ (m : Reference) (g : Good m) (x : Memory) (h : Represents m x) where
     abbrev sp : List (List ℕ)
     sp = m .spectra ++ (ps ∷ [])
 
-    sums : added (x .state .registers) (x .totals) ps ≡ heldTotals r sp
+    -- the totals with the tick's powers added are those of the spectra with the tick's
+    abbrev tickSums : List ℕ
+    tickSums = added (x .state .registers) (x .totals) ps
+
+    sums : tickSums ≡ heldTotals r sp
     sums = ap₂ (λ k l. added k l ps) (h .registers) (h .totals) ∙ held-added r (m .spectra) ps
 
-    bytes : GoodReport r sp → reportBytes (x .state .registers) (slot (added (x .state .registers) (x .totals) ps)) ≡ reportBytes r (spectraTotal r sp)
+    bytes : GoodReport r sp → reportBytes (x .state .registers) (slot tickSums) ≡ reportBytes r (spectraTotal r sp)
     bytes k = ap₂ (λ q l. reportBytes q (slot l)) (h .registers) sums ∙ report-ext r _ _ (slot-held r sp)
 
     follows-report : GoodReport r sp →
-        FollowsTick out (reportOutcome (x .state) (x .totals) (added (x .state .registers) (x .totals) ps) out) (entryReport m sp)
+        FollowsTick out (reportOutcome (x .state) (x .totals) tickSums out) (entryReport m sp)
     unfolding reportOutcome
     follows-report k =
-        cond-related (FollowsTick out) (not (meansWithin (x .state .registers) (slot (added (x .state .registers) (x .totals) ps))))
+        cond-related (FollowsTick out) (not (meansWithin (x .state .registers) (slot tickSums)))
         (not (meansWithin r (spectraTotal r sp)))
         (ap not (ap₂ (λ q l. meansWithin q (slot l)) (h .registers) sums ∙ board-accepts r sp k ∙ sym (model-accepts r sp k)))
         (λ e. record { answer = refl; out = refl; next = unchanged })
@@ -99,7 +103,7 @@ module _ (m : Reference) (g : Good m) (x : Memory) (h : Represents m x) where
           next = ticked run [] _ (held-no r);
         })
 
-    by-cases : FollowsTick out (runningOutcome (x .state) (x .totals) (added (x .state .registers) (x .totals) ps) out) (byBoardCases m sp)
+    by-cases : FollowsTick out (runningOutcome (x .state) (x .totals) tickSums out) (byBoardCases m sp)
     unfolding runningOutcome
     by-cases =
         cond-related (FollowsTick out) (ltb (x .state .phase) (averagedSpectra (x .state .registers) - 1)) (ltb (m .phase) (averagedSpectra r - 1))
@@ -114,7 +118,7 @@ module _ (m : Reference) (g : Good m) (x : Memory) (h : Represents m x) where
           next = ticked run [] _ (h .totals ∙ ap (heldTotals r) (no-length (m .spectra) (g .held ∙ held-waiting r run (m .phase) c q)));
         }))
 
-    follows-running : FollowsTick out (runningOutcome (x .state) (x .totals) (added (x .state .registers) (x .totals) ps) out) (entryRunning m ps)
+    follows-running : FollowsTick out (runningOutcome (x .state) (x .totals) tickSums out) (entryRunning m ps)
     follows-running = subst (FollowsTick out _) (entry-cases m ps) by-cases
 
   follows-tick : (ps out : List ℕ) (t : TotalsPassed) → Powers ps → Follows r out (entry m (inputOf (tick ps t out))) (perform x (tick ps t out))
