@@ -1,2 +1,1 @@
-pub mod Values
 pub mod Theorems

@@ -1,24 +1,22 @@
 -- The answers of the functions of bands and codes are told apart from refusals. Assumes nothing.
 use mathlib.Core.Path.{sym}
 use mathlib.Core.Bool.{_&&_}
-use mathlib.Core.List.{List}
 use Prim.Native.Nat.{_<_}
 use native.Mathlib.Omega.{arith}
 use borrow.Author.Tests.{leb-true}
-use lib.Dec.{leb, ltb}
-use lib.ListN.{length}
+use lib.Dec.{leb}
 use Rattle.lists.proofs.Choices.{cond-at, both}
-use Rattle.refusal.specs.Outcome.{Outcome, given, refused, Filled}
 use Rattle.codes.specs.Expanded.{bandExpanded, sumExpanded}
 use Rattle.codes.proofs.Laws.{expanded-lt}
 use Rattle.bands.specs.Band.{sizeExponent, bandOf}
-use Rattle.bands.specs.Answer.{bandFound, bandDescribed}
+use Rattle.bands.specs.Answer.{bandFound, bandDescribed, CadenceValue, rate, period, cadenceOf}
 use Rattle.bands.proofs.Settings.{band-lt}
 use Rattle.registers.proofs.Counts.{bands-count}
 use Rattle.dfb_refusals.specs.Numbers.{above8, above16, above63}
 use Rattle.dfb_refusals.proofs.Apart.{Below, given-below, refused-below, told-apart}
-use Rattle.dfb_bands.specs.Values.{valuesWritten, oneValue, threeValues, sumWritten, bandWritten}
-use Rattle.dfb_bands.specs.Claims.{BandOfApart, ExpandBandApart, ExpandSumApart, DescribeBandApart}
+use Rattle.dfb_refusals.proofs.Values.{values-below}
+use Rattle.dfb_bands.specs.Values.{oneValue, threeValues, cadenceValue, sumWritten, bandWritten, cadenceWritten}
+use Rattle.dfb_bands.specs.Claims.{BandOfApart, ExpandBandApart, ExpandSumApart, DescribeBandApart, CadenceApart}
 
 pub band-of-apart : BandOfApart
 band-of-apart setting bin =
@@ -33,19 +31,19 @@ band-of-apart setting bin =
 pub expand-band-apart : ExpandBandApart
 expand-band-apart code = told-apart above63 (bandExpanded code) (record { value = λ v e. omega (arith, expanded-lt code v (sym e)) })
 
-abbrev Under : {A : Type 0} → Filled A → Type 0
-Under f = Below above16 (f .answer)
-
-values-below : {A : Type 0} (o : Outcome (List A)) (list : List A) → Under (valuesWritten o list)
-values-below (refused n) list = refused-below above16 n
-values-below (given values) list =
-    cond-at Under (ltb (length list) (length values)) (λ e. refused-below above16 2)
-    (λ e. given-below above16 0 (omega arith))
-
 pub expand-sum-apart : ExpandSumApart
 unfolding sumWritten
-expand-sum-apart code value = told-apart above16 _ (values-below (oneValue (sumExpanded code)) value)
+expand-sum-apart code value = told-apart above16 _ (values-below above16 oneValue (sumExpanded code) value (λ v e. omega arith))
 
 pub describe-band-apart : DescribeBandApart
 unfolding bandWritten
-describe-band-apart setting band three = told-apart above16 _ (values-below (threeValues (bandDescribed setting band)) three)
+describe-band-apart setting band three =
+    told-apart above16 _ (values-below above16 threeValues (bandDescribed setting band) three (λ d e. omega arith))
+
+cadence-below : (v : CadenceValue) → cadenceValue v .number < above16
+cadence-below (rate f) = omega arith
+cadence-below (period f) = omega arith
+
+pub cadence-apart : CadenceApart
+unfolding cadenceWritten
+cadence-apart choice value = told-apart above16 _ (values-below above16 cadenceValue (cadenceOf choice) value (λ v e. cadence-below v))

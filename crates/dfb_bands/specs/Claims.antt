@@ -5,7 +5,7 @@ use lib.Ieee.{Float}
 use Rattle.codes.specs.Expanded.{bandExpanded}
 use Rattle.bands.specs.Answer.{bandFound}
 use Rattle.dfb_refusals.specs.Numbers.{above8, above16, above63, ToldApart}
-use Rattle.dfb_bands.specs.Values.{sumWritten, bandWritten}
+use Rattle.dfb_bands.specs.Values.{sumWritten, bandWritten, cadenceWritten}
 
 abbrev pub BandOfApart : Type 0
 BandOfApart = (setting bin : ℕ) → ToldApart above8 (bandFound setting bin)
@@ -18,3 +18,6 @@ ExpandSumApart = (code : ℕ) (value : List ℕ) → ToldApart above16 (sumWritt
 
 abbrev pub DescribeBandApart : Type 0
 DescribeBandApart = (setting band : ℕ) (three : List Float) → ToldApart above16 (bandWritten setting band three .answer)
+
+abbrev pub CadenceApart : Type 0
+CadenceApart = (choice : ℕ) (value : List Float) → ToldApart above16 (cadenceWritten choice value .answer)

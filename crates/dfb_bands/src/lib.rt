@@ -1,13 +1,15 @@
 // The C interface of the bands and the two codes (include/dfb.h). Each function takes numbers and slices, a pointer and then a length in
 // C, and answers a number. A refusal is a base plus its number, which no other answer of the function equals, and changes nothing.
 ghost use mathlib.Core.Path.{_≡_};
+ghost use mathlib.Core.List.{[], _∷_};
 ghost use Rattle.codes.specs.Code.{bandCode, sumCode};
 ghost use Rattle.codes.specs.Expanded.{bandExpanded};
 ghost use Rattle.bands.specs.Answer.{bandFound};
-ghost use Rattle.dfb_refusals.specs.Numbers.{above8, above16, above63, outcomeNumber, FilledNumber, filledNumber};
-ghost use Rattle.dfb_bands.specs.Values.{sumWritten, bandWritten};
+ghost use Rattle.dfb_refusals.specs.Numbers.{above8, above16, above63, outcomeNumber, FilledNumber, filledNumber, valuesPut};
+ghost use Rattle.dfb_bands.specs.Values.{sumWritten, bandWritten, cadenceWritten};
 use bands::BandDescription;
 use bands::BandIndex;
+use bands::Cadence;
 use codes::BandValue;
 use codes::SumValue;
 use refusal::Refusal;
@@ -39,6 +41,29 @@ pub extern "C" fn dfb_describe_band(setting: u8, band: u8, three: &mut [f32]) ->
             0
         }
         BandDescription::Refused(refusal) => dfb_refusals::above_16(refusal),
+    }
+}
+
+// Writes one value to a list and gives the answer. Refused by 2.
+fn put_value(list: &mut [f32], f: f32, answer: u32) -> u32
+    ensures { λ r. ⌜ record { answer = r; buffer = now (list .exit) } ≡ filledNumber above16 (valuesPut (record { number = answer; values = f ∷ [] }) (now (list .entry))) ⌝ }
+{
+    if list.len() < 1 {
+        return dfb_refusals::above_16(Refusal::WrongLength);
+    }
+    list[0] = f;
+    answer
+}
+
+// Writes a rate per second and answers 0, or a period in seconds and answers 1. Refused by 12, then 2.
+#[no_mangle]
+pub extern "C" fn dfb_cadence_of(choice: u8, value: &mut [f32]) -> u32
+    ensures { λ r. ⌜ record { answer = r; buffer = now (value .exit) } ≡ filledNumber above16 (cadenceWritten choice (now (value .entry))) ⌝ }
+{
+    match bands::cadence_of(choice) {
+        Cadence::Rate(rate) => put_value(value, rate, 0),
+        Cadence::Period(period) => put_value(value, period, 1),
+        Cadence::Refused(refusal) => dfb_refusals::above_16(refusal),
     }
 }
 

@@ -1,3 +1,4 @@
 pub mod Small
 pub mod Append
+pub mod Read
 pub mod Theorems

@@ -1,3 +1,4 @@
--- The C interface of the log: what append by a kind does, and how answers are told apart.
+-- The C interface of the log: what append by a kind and a read as numbers do, and how answers are told apart.
 pub mod Append
+pub mod Read
 pub mod Claims

@@ -3,13 +3,16 @@
 ghost use mathlib.Core.Path.{_≡_};
 ghost use Prim.Native.Nat.{_^_, _<_};
 ghost use mathlib.Core.Bool.{false};
+ghost use mathlib.Core.List.{[], _∷_};
 ghost use Rattle.refusal.specs.Number.{numberOf};
 ghost use Rattle.refusal.specs.Outcome.{writtenOutcome};
 ghost use Rattle.sets.specs.Sets.{packOutcome, unpackOutcome};
 ghost use Rattle.listing.specs.Listing.{listingOutcome};
-ghost use Rattle.dfb_refusals.specs.Numbers.{above16, above63, outcomeNumber, FilledNumber, filledNumber};
+ghost use Rattle.dfb_refusals.specs.Numbers.{above16, above63, outcomeNumber, FilledNumber, filledNumber, valuesPut};
 ghost use Rattle.dfb_log.specs.Append.{recordOf, isWide, wideRefusal, appendKind};
+ghost use Rattle.dfb_log.specs.Read.{aOf, bOf, recordRead};
 use log::Command;
+use log::Read;
 use log::Record;
 use log::Word;
 use refusal::Refusal;
@@ -113,6 +116,62 @@ pub extern "C" fn dfb_append(log: &mut [u8], used: usize, kind: u8, a: u8, b: u3
         return dfb_refusals::above_63(wide_refusal(kind, a));
     }
     written_63(log::append(log, used, record_of(kind, a, b)))
+}
+
+// The ID of a command or the APID of a word.
+fn a_of(rec: Record) -> u8
+    ensures { λ r. ⌜ r ≡ aOf rec ⌝ }
+{
+    match rec {
+        Record::Command(c) => c.id,
+        Record::Word(w) => w.apid,
+        Record::SecondMark(_) => 0,
+        Record::Tick => 0,
+    }
+}
+
+// The 16 bits of a command or a word, or the seconds of a second mark.
+fn b_of(rec: Record) -> u32
+    ensures { λ r. ⌜ r ≡ bOf rec ⌝ }
+{
+    match rec {
+        Record::Command(c) => c.information as u32,
+        Record::Word(w) => w.bits as u32,
+        Record::SecondMark(s) => s,
+        Record::Tick => 0,
+    }
+}
+
+// Writes kind, a and b and answers the place. Refused by 2.
+fn put_numbers(numbers: &mut [u32], place: usize, kind: u8, a: u8, b: u32) -> u64
+    ensures { λ r. ⌜ record { answer = r; buffer = now (numbers .exit) } ≡ filledNumber above63 (valuesPut (record { number = place; values = kind ∷ a ∷ b ∷ [] }) (now (numbers .entry))) ⌝ }
+{
+    if numbers.len() < 3 {
+        return dfb_refusals::above_63(Refusal::WrongLength);
+    }
+    numbers[0] = kind as u32;
+    numbers[1] = a as u32;
+    numbers[2] = b;
+    place as u64
+}
+
+// Reads one record at a place; answers the place after it, with kind, a and b in numbers[0..3] as dfb_append takes them. At the end kind
+// is 0 and the place stays. Refused by 2, 9, 10, then 1 or 4, then 2 for a list under 3.
+#[no_mangle]
+pub extern "C" fn dfb_read_record(log: &[u8], at: usize, numbers: &mut [u32]) -> u64
+    ensures { λ r. ⌜ record { answer = r; buffer = now (numbers .exit) } ≡ filledNumber above63 (recordRead (now (log .entry)) at (now (numbers .entry))) ⌝ }
+{
+    match log::read_at(log, at) {
+        Read::Record(rec, next) => put_numbers(
+            numbers,
+            next,
+            log::kind_of(rec),
+            a_of(rec),
+            b_of(rec),
+        ),
+        Read::End => put_numbers(numbers, at, 0, 0, 0),
+        Read::Refused(refusal) => dfb_refusals::above_63(refusal),
+    }
 }
 
 // Writes the listing of a log; answers the bytes of text. Refused by 2.

@@ -2,9 +2,12 @@
 -- equals.
 use Prim.Native.Nat.{ℕ, _+_, _^_}
 use mathlib.Core.Path.{_≡_}
-use lib.Dec.{ltb}
+use mathlib.Core.Bool.{cond}
 use mathlib.Core.List.{List}
-use Rattle.refusal.specs.Outcome.{Outcome, given, refused, isGiven, Filled}
+use lib.Dec.{ltb}
+use lib.ListN.{length}
+use Rattle.lists.specs.Tables.{overwrite}
+use Rattle.refusal.specs.Outcome.{Outcome, given, refused, isGiven, Filled, unfilled}
 
 -- where refusals begin: above 8-bit values, above 16-bit values, and at the highest bit of a 64-bit answer
 abbrev pub above8 : ℕ
@@ -32,3 +35,18 @@ filledNumber base f = record { answer = outcomeNumber base (f .answer); buffer =
 -- a caller tells an accepted answer from a refusal by the base
 abbrev pub ToldApart : ℕ → Outcome ℕ → Type 0
 ToldApart base o = ltb (outcomeNumber base o) base ≡ isGiven o
+
+-- values that a call writes to a list, and the number that it answers with them
+pub record Values (A : Type 0) : Type 0 where
+  pub number : ℕ
+  pub values : List A
+
+-- the values stand at the front of the list, and their number is the answer; refused by 2 where the list has no room for them
+abbrev pub valuesPut : {A : Type 0} → Values A → List A → Filled A
+valuesPut v list =
+    cond (ltb (length list) (length (v .values))) (unfilled 2 list) (record { answer = given (v .number); buffer = overwrite (v .values) list })
+
+-- the values of what is given are put; refused as it is, then by 2
+abbrev pub valuesWritten : {A B : Type 0} → (B → Values A) → Outcome B → List A → Filled A
+valuesWritten valuesOf (given b) list = valuesPut (valuesOf b) list
+valuesWritten valuesOf (refused n) list = unfilled n list

@@ -1,4 +1,4 @@
-// Choices of an interval, one case for each rule of 02, ticket 11. tools/interval_cases.py writes the cases after this part, and the expected
+// Choices of an interval, one case for each rule of 02, ticket 11. tools/cases/interval.py writes the cases after this part, and the expected
 // output from a model of its own. A line is the first and the last place, or r with a refusal.
 ghost use Prim.Native.Nat.{_<_};
 use interval::IntervalAnswer;

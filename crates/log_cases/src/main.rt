@@ -1,4 +1,4 @@
-// Packs and unpacks sets, appends to logs and reads logs, by the cases of standard input. tools/log_cases.py writes the input and the expected
+// Packs and unpacks sets, appends to logs and reads logs, by the cases of standard input. tools/cases/log.py writes the input and the expected
 // output, the latter from a model of its own. A case has 80 bytes. Its call, the APID or the kind of record, the number of samples or bytes
 // handed in, and the length of the buffer or the number of records to read, a byte each; the body of a record (4); the bytes used or the place
 // (8, high first); and what is handed in and the buffer (32 each), or a log (64). A sample is two bytes: it plus 32,768, high byte first.

@@ -1,4 +1,4 @@
-// Lists the logs of standard input, some for each rule of 01 on the walk and the text, and then logs of ticks. tools/setlist_cases.py writes
+// Lists the logs of standard input, some for each rule of 01 on the walk and the text, and then logs of ticks. tools/cases/setlist.py writes
 // the input and the expected output, the latter from a model of its own.
 ghost use mathlib.Core.Path.{_≡_};
 ghost use Prim.Native.Nat.{_+_, _<_, _≤_};

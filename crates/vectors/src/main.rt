@@ -1,5 +1,5 @@
 // Prints what codes and bands answer for outside vectors: 01's numbers that are not starred, all 256 band codes, and every band of the
-// frequency tables. tools/vectors.py writes the expected output, from 01 and document 002.
+// frequency tables. tools/cases/vectors.py writes the expected output, from 01 and document 002.
 use bands::BandDescription;
 use bands::BandIndex;
 use bands::Cadence;

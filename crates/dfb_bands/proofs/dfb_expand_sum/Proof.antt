@@ -1,16 +1,13 @@
 -- `dfb_bands::dfb_expand_sum` meets its contract: each arm and the test pick the case of the rule. Assumes nothing.
 use mathlib.Core.Path.{sym, ap, _∙_}
-use mathlib.Core.List.{List, [], _∷_}
 use Prim.Native.Nat.{ℕ}
 use native.Mathlib.Omega.{arith}
 use borrow.Author.Needs.{needs}
-use lib.Seq.{sets-eq}
-use Rattle.refusal.specs.Outcome.{Outcome}
 use Rattle.codes.specs.Expanded.{sumValueOutcome}
-use Rattle.dfb_refusals.specs.Numbers.{above16, filledNumber}
-use Rattle.dfb_bands.specs.Values.{valuesWritten, oneValue, sumWritten}
+use Rattle.dfb_refusals.specs.Numbers.{above16}
+use Rattle.dfb_bands.specs.Values.{oneValue, sumWritten}
 use Rattle.dfb_refusals.proofs.Numbers.{numbered}
-use Rattle.dfb_bands.proofs.Values.{values-short, values-fit}
+use Rattle.dfb_refusals.proofs.Values.{values-short, values-stored, values-of}
 use Rattle.dfb_bands.proofs.dfb_expand_sum.Statement.{statement}
 use Rattle.dfb_bands.proofs.dfb_expand_sum.Tie as tie
 
@@ -20,8 +17,7 @@ returns c =
     let list = c .before .before .before .before .before .before .before .args .value .now in
     let v = c .before .before .before .v .given .0 .0 in
     let values = sym (ap sumValueOutcome (c .before .before .before .v .given .1)) ∙ c .before .before .before .before .before .expand-sum .ensures in
-    numbered above16 _ (c .above-16 .ensures)
-    (values-short (v ∷ []) list (omega arith) ∙ ap (λ (o : Outcome ℕ). valuesWritten (oneValue o) list) values)
+    values-of above16 oneValue list values (numbered above16 _ (c .above-16 .ensures) (values-short (oneValue v) list (omega arith)))
 
 returns-2 : tie.Need-returns-2
 unfolding sumWritten
@@ -29,15 +25,14 @@ returns-2 c =
     let list = c .before .before .before .before .before .before .args .value .now in
     let v = c .before .before .v .given .0 .0 in
     let values = sym (ap sumValueOutcome (c .before .before .v .given .1)) ∙ c .before .before .before .before .expand-sum .ensures in
-    ap (λ (l : List ℕ). record { answer = 0; buffer = l }) (sets-eq (v ∷ []) list 0 (omega arith))
-    ∙ ap (filledNumber above16) (values-fit (v ∷ []) list (omega arith) ∙ ap (λ (o : Outcome ℕ). valuesWritten (oneValue o) list) values)
+    values-of above16 oneValue list values (values-stored (oneValue v) list above16 (omega arith))
 
 returns-3 : tie.Need-returns-3
 unfolding sumWritten
 returns-3 c =
     let list = c .before .before .before .before .before .before .args .value .now in
     let values = sym (ap sumValueOutcome (c .before .before .refusal .given .1)) ∙ c .before .before .before .before .expand-sum .ensures in
-    numbered above16 _ (c .above-162 .ensures) (ap (λ (o : Outcome ℕ). valuesWritten (oneValue o) list) values)
+    values-of above16 oneValue list values (ap (λ (n : ℕ). record { answer = n; buffer = list }) (c .above-162 .ensures))
 
 pub dfb-expand-sum-spec : {M : Type 1} → statement M
 dfb-expand-sum-spec =
