@@ -1,5 +1,5 @@
 //! The implementations that tests and benchmark set side by side, under one interface. Answers are the numbers of include/dfb.h.
-use crate::plain_rust;
+use crate::{model, plain_rust};
 
 /// State, totals, powers and output.
 type Tick = fn(&mut [u16], &mut [u64], &[u32], &mut [u8]) -> u32;
@@ -68,15 +68,30 @@ pub fn proved() -> Implementation {
     over_c!("proved", dfb::ffi::dfb_tick, dfb::ffi::dfb_pack, dfb::ffi::dfb_listing)
 }
 
-/// Plain C by each compiler that is there, and plain Rust.
-pub fn plain() -> Vec<Implementation> {
+/// Plain C by each compiler that is there.
+pub fn plain_c() -> Vec<Implementation> {
     vec![
         #[cfg(gcc)]
         over_c!("gcc -O3", gcc_tick, gcc_pack, gcc_listing),
         #[cfg(clang)]
         over_c!("clang -O3", clang_tick, clang_pack, clang_listing),
-        Implementation { name: "plain Rust", tick: plain_rust::tick, pack: plain_rust::pack, listing: plain_rust::listing },
     ]
+}
+
+/// Plain Rust: pack and listing are the model's.
+pub fn plain_rust() -> Implementation {
+    Implementation {
+        name: "plain Rust",
+        tick: plain_rust::tick,
+        pack: |apid, samples, out| match model::pack(apid, samples, out) {
+            Ok(count) => count as u32,
+            Err(refusal) => 0x10000 + refusal as u32,
+        },
+        listing: |log, out| match model::listing(log, out) {
+            Ok(count) => count as u64,
+            Err(refusal) => (1 << 63) + refusal as u64,
+        },
+    }
 }
 
 /// One plain loop that sums powers, by each compiler.

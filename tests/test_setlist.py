@@ -1,6 +1,6 @@
 """Tests of the program setlist, its wrapper ./setlist, the samples, tools/plot and the handbook's examples.
 
-SETLIST names the program where it is not target/bin/setlist. The last test reports times and holds them to nothing.
+SETLIST names the program where it is not target/bin/setlist.
 """
 import os
 import random
@@ -16,7 +16,7 @@ TOP = os.path.dirname(os.path.dirname(os.path.abspath(__file__)))
 PROGRAM = os.environ.get("SETLIST", os.path.join(TOP, "target", "bin", "setlist"))
 WRAPPER = os.path.join(TOP, "setlist")
 SAMPLES = ("day-start", "bursts", "damaged")
-sys.path.insert(0, os.path.join(TOP, "tools"))
+sys.path.insert(0, os.path.join(TOP, "tools", "cases"))
 
 from listing_model import listing, random_log  # noqa: E402
 
@@ -44,15 +44,6 @@ def long_random_log(r, length):
     while len(log) < length:
         log += random_log(r)
     return log[:length]
-
-
-def survey_log():
-    """Seconds of a survey, up to 65,536 bytes: a mark, eight ticks, waveform sets, and a SPEC set of one processor at 36 bands."""
-    second = bytes.fromhex("0347C99A40 0404040404040404")
-    for apid, words in ((0x43, 3), (0x44, 7), (0x45, 3)):
-        second += b"".join(bytes([2, apid, 40 * i, 200 - i]) for i in range(words))
-    second += b"".join(bytes([2, 0x4E, 8 * i + 12, 8 * i + 15]) for i in range(18))
-    return b"\x01\x30\x33\x23" + second * ((65536 - 4) // len(second))
 
 
 class Listings(unittest.TestCase):
@@ -235,34 +226,6 @@ class Documents(unittest.TestCase):
             self.assertEqual(shell(command).stdout.decode(), re.sub("^    ", "", output, flags=re.MULTILINE))
         for command, last in sentences:
             self.assertEqual(shell(command).stdout.decode().splitlines()[-1], last)
-
-
-class Times(unittest.TestCase):
-    def seconds(self, program, log):
-        """The best time of many runs."""
-        best = float("inf")
-        for _ in range(100):
-            log.seek(0)
-            start = time.perf_counter()
-            subprocess.run([program], stdin=log, stdout=subprocess.DEVNULL, check=True)
-            best = min(best, time.perf_counter() - start)
-        return best
-
-    def test_beside_plain_c(self):
-        compiler = shutil.which("cc")
-        if compiler is None:
-            self.skipTest("no C compiler")
-        with tempfile.TemporaryDirectory() as folder, open(os.path.join(folder, "log"), "w+b") as log:
-            plain = os.path.join(folder, "setlist_plain")
-            subprocess.run([compiler, "-O3", "-o", plain, "bench/setlist_plain.c", "bench/plain.c"], cwd=TOP, check=True)
-            data = survey_log()
-            log.write(data)
-            log.flush()
-            for program in (PROGRAM, plain):
-                self.assertEqual(run([program], data).stdout.decode("ascii"), listing(data))
-            ours, theirs, empty = self.seconds(PROGRAM, log), self.seconds(plain, log), self.seconds("true", log)
-            print("\nsetlist on %d bytes: %.2f ms, plain C %.2f ms, ratio %.2f (a program that does nothing: %.2f ms)"
-                  % (len(data), 1e3 * ours, 1e3 * theirs, ours / theirs, 1e3 * empty))
 
 
 if __name__ == "__main__":

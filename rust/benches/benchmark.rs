@@ -2,6 +2,9 @@
 //! same inputs. Each figure is the best of many rounds (DFB_ROUNDS, 60 unless set). Before a row is timed, all must agree.
 #[path = "../../bench/implementations.rs"]
 mod implementations;
+#[path = "../tests/differential/model.rs"]
+#[allow(dead_code)]
+mod model;
 #[path = "../../bench/plain.rs"]
 mod plain_rust;
 #[path = "../tests/differential/random.rs"]
@@ -127,7 +130,7 @@ impl Bench {
             let mut board = start.clone();
             results.push((kind.run(implementation, &mut board, spectra), board));
         }
-        let name = format!("tick, {processors} of 7, {} bands, {}", [36, 64, 112][setting as usize], kind.name);
+        let name = format!("tick, {processors} of 7, {} bands, {}", model::BAND_COUNT[setting as usize], kind.name);
         assert!(results.iter().all(|result| *result == results[0]), "{name}: the implementations differ");
 
         let best = self.best(|implementation| {
@@ -141,7 +144,7 @@ impl Bench {
     }
 
     fn listing(&self, name: &str, log: &[u8]) {
-        let mut out = vec![0; 6 * log.len() + 64];
+        let mut out = vec![0; model::listing_room(log.len())];
         let mut texts = vec![];
         for implementation in &self.implementations {
             let count = (implementation.listing)(log, &mut out);
@@ -222,7 +225,8 @@ fn survey_log(r: &mut Random) -> Vec<u8> {
 fn main() {
     let rounds = std::env::var("DFB_ROUNDS").map_or(60, |rounds| rounds.parse().expect("DFB_ROUNDS is a number"));
     let mut implementations = vec![implementations::proved()];
-    implementations.extend(implementations::plain());
+    implementations.extend(implementations::plain_c());
+    implementations.push(implementations::plain_rust());
     let ratios = vec![(f64::INFINITY, 0.0); implementations.len() - 1];
     let spectra = Spectra::new();
     let limit = sum_of_powers(4 * rounds, &spectra);

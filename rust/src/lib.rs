@@ -54,6 +54,30 @@ impl Refusal {
         self as u8
     }
 
+    /// The refusal in words.
+    pub fn meaning(self) -> &'static str {
+        match self {
+            Refusal::UnknownCommand => "the command ID is outside 0x30 to 0x36",
+            Refusal::WrongLength => "a list has a wrong length, an output is too small, or a place or number does not fit",
+            Refusal::UnsoundState => "the state is not one that the board or the slots can have left",
+            Refusal::UnknownApid => "the APID is none of the seven, or 0x4E where a waveform's is wanted",
+            Refusal::IncompleteSet => "the set is not complete",
+            Refusal::NoProcessorEnabled => "a SPEC word with no processor enabled",
+            Refusal::IllegalBandCode => "the band code is not legal",
+            Refusal::SumCodeOverflow => "the sum code's value is 2^64 or more",
+            Refusal::UnknownRecordKind => "the record kind is none of 1 to 4",
+            Refusal::TruncatedBody => "the log ends within a record",
+            Refusal::InputTooLong => "the log is over 65,536 bytes",
+            Refusal::OutOfRange => "a bin setting, band, FFT bin or NCAD choice is out of range",
+            Refusal::MeanOverflow => "a band mean is over 2^32 - 1",
+            Refusal::TurnedAway => "no slot is free and no held slot has a smaller criterion",
+            Refusal::NothingToSend => "nothing is held to send, or no criterion is above 0",
+            Refusal::AlreadySending => "a slot is already sending",
+            Refusal::NoneSending => "no slot is sending",
+            Refusal::ZeroLimit => "the limit is 0 blocks",
+        }
+    }
+
     fn of(number: u64) -> Refusal {
         match number {
             1 => Refusal::UnknownCommand,
@@ -81,7 +105,7 @@ impl Refusal {
 
 impl fmt::Display for Refusal {
     fn fmt(&self, f: &mut fmt::Formatter) -> fmt::Result {
-        write!(f, "refusal {}: {self:?}", self.number())
+        write!(f, "refusal {}: {}", self.number(), self.meaning())
     }
 }
 
@@ -95,6 +119,15 @@ pub enum Tick {
     Waiting,
     /// A report was written: so many words of three bytes.
     Reported(usize),
+}
+
+/// What the number of a cadence is.
+#[derive(Clone, Copy, Debug, PartialEq, Eq)]
+pub enum Cadence {
+    /// Reports per second.
+    Rate,
+    /// Seconds.
+    Period,
 }
 
 /// What an offer to the burst slots did, and how many slots it looked at.
@@ -128,6 +161,7 @@ pub mod ffi {
         pub fn dfb_pack(apid: u8, samples: *const i16, samples_len: usize, out: *mut u8, out_len: usize) -> u32;
         pub fn dfb_unpack(apid: u8, bytes: *const u8, bytes_len: usize, samples: *mut i16, samples_len: usize) -> u32;
         pub fn dfb_append(log: *mut u8, log_len: usize, used: usize, kind: u8, a: u8, b: u32) -> u64;
+        pub fn dfb_read_record(log: *const u8, log_len: usize, at: usize, numbers: *mut u32, numbers_len: usize) -> u64;
         pub fn dfb_listing(log: *const u8, log_len: usize, out: *mut u8, out_len: usize) -> u64;
         pub fn dfb_band_of(setting: u8, bin: u16) -> u16;
         pub fn dfb_compress_band(value: u32) -> u8;
@@ -135,6 +169,7 @@ pub mod ffi {
         pub fn dfb_compress_sum(value: u64) -> u16;
         pub fn dfb_expand_sum(code: u16, value: *mut u64, value_len: usize) -> u32;
         pub fn dfb_describe_band(setting: u8, band: u8, three: *mut f32, three_len: usize) -> u32;
+        pub fn dfb_cadence_of(choice: u8, value: *mut f32, value_len: usize) -> u32;
         pub fn dfb_burst_offer(status: *mut u8, status_len: usize, criteria: *mut u32, criteria_len: usize, criterion: u32) -> u32;
         pub fn dfb_burst_choose(status: *mut u8, status_len: usize, criteria: *mut u32, criteria_len: usize) -> u32;
         pub fn dfb_burst_finish(status: *mut u8, status_len: usize, criteria: *mut u32, criteria_len: usize) -> u32;
@@ -249,6 +284,15 @@ pub fn append(log: &mut [u8], used: usize, kind: u8, a: u8, b: u32) -> Result<us
     answer(number, REFUSED_63).map(|used| used as usize)
 }
 
+/// Reads the record at a place of the log: the place after it. `numbers[0..3]` becomes kind, `a` and `b` as in `append`, with 0 for what the
+/// kind lacks; at the log's end all three are 0 and the place stays. Refusals 2 for a place past the log, 9, 10, 1 or 4, then 2 where
+/// `numbers` is shorter.
+pub fn read_record(log: &[u8], at: usize, numbers: &mut [u32]) -> Result<usize, Refusal> {
+    // SAFETY: as in command.
+    let number = unsafe { ffi::dfb_read_record(log.as_ptr(), log.len(), at, numbers.as_mut_ptr(), numbers.len()) };
+    answer(number, REFUSED_63).map(|place| place as usize)
+}
+
 /// Lists a log: the bytes of text written. Refusal 2 where `out` is under 6 bytes for each byte of the log and 64 more (64 where the log
 /// is over 65,536 bytes).
 pub fn listing(log: &[u8], out: &mut [u8]) -> Result<usize, Refusal> {
@@ -294,6 +338,18 @@ pub fn describe_band(setting: u8, band: u8, three: &mut [f32]) -> Result<(), Ref
     // SAFETY: as in command.
     let number = unsafe { ffi::dfb_describe_band(setting, band, three.as_mut_ptr(), three.len()) };
     answer(number.into(), REFUSED_16).map(|_| ())
+}
+
+/// Writes the cadence of an NCAD choice to `value[0]`: a rate per second or a period in seconds, as the answer says. Refusals 12, then 2
+/// where `value` is empty.
+pub fn cadence_of(choice: u8, value: &mut [f32]) -> Result<Cadence, Refusal> {
+    // SAFETY: as in command.
+    let number = unsafe { ffi::dfb_cadence_of(choice, value.as_mut_ptr(), value.len()) };
+    match answer(number.into(), REFUSED_16)? {
+        0 => Ok(Cadence::Rate),
+        1 => Ok(Cadence::Period),
+        other => panic!("libdfb answered {other}, which is no answer of a cadence"),
+    }
 }
 
 /// Offers a block to the burst slots (status 0 free, 1 held, 2 sending). Refusals 2, 3; a block that is turned away is an `Offer` too.

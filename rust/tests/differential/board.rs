@@ -4,23 +4,18 @@ use crate::numbered;
 use crate::random::{seeds, Buffer, Random};
 
 /// The caller's memory beside the model.
-struct Pair {
+pub struct Pair {
     state: Buffer<u16>,
     totals: Buffer<u64>,
     board: Board,
 }
 
 impl Pair {
-    fn new(r: &mut Random, board: Board) -> Pair {
+    pub fn new(r: &mut Random, board: Board) -> Pair {
         Pair { state: Buffer::new(&board.state(), || r.next() as u16), totals: Buffer::new(&board.totals(), || r.next()), board }
     }
 
-    fn compare_memory(&self) {
-        assert_eq!(self.state, self.state.with(0, &self.board.state()));
-        assert_eq!(self.totals, self.totals.with(0, &self.board.totals()));
-    }
-
-    fn command(&mut self, id: u8, information: u16) -> Answer<u16> {
+    pub fn command(&mut self, id: u8, information: u16) -> Answer<u16> {
         let (mut state, mut totals) = (self.state.clone(), self.totals.clone());
         let answer = numbered(dfb::command(state.list(), totals.list(), id, information));
         assert_eq!(answer, self.board.command(8, TOTALS, id, information));
@@ -29,18 +24,21 @@ impl Pair {
     }
 
     fn read(&mut self, id: u8) {
-        assert_eq!(numbered(dfb::read(self.state.list(), id)), model::read(&self.board.state(), id));
+        let mut state = self.state.clone();
+        assert_eq!(numbered(dfb::read(state.list(), id)), model::read(&self.board.state(), id));
+        assert_eq!(state, self.state);
     }
 
-    /// The report's bytes, where there is one.
-    fn tick(&mut self, powers: &[u32], out: &mut Buffer<u8>) -> Option<Vec<u8>> {
+    pub fn tick(&mut self, powers: &[u32], out: &mut Buffer<u8>) -> Answer<dfb::Tick> {
         let (mut state, mut totals, before) = (self.state.clone(), self.totals.clone(), out.clone());
+        let mut lent = Buffer::lent(powers);
         let settings = self.board.settings();
-        let answer = numbered(dfb::tick(state.list(), totals.list(), powers, out.list()));
+        let answer = numbered(dfb::tick(state.list(), totals.list(), lent.list(), out.list()));
+        assert!(lent == Buffer::lent(powers));
         let expected = self.board.tick(8, TOTALS, powers, out.list().len());
-        let report = compare_tick(answer, expected, &settings, &before, out);
+        compare_tick(answer, expected, &settings, &before, out);
         self.keep(state, totals);
-        report
+        answer
     }
 
     /// Takes the memory that a call left, in which nothing but the state and the totals may differ.
@@ -61,7 +59,7 @@ impl Pair {
         let mut totals = resized(self.totals.list(), lengths[1], || r.next());
         let mut powers = resized(powers, lengths[2], || r.next() as u32);
         let mut out = Buffer::of_length(lengths[3], || r.next() as u8);
-        let before = (state.clone(), totals.clone(), out.clone());
+        let before = (state.clone(), totals.clone(), powers.clone(), out.clone());
         let answer = numbered(dfb::tick(state.list(), totals.list(), powers.list(), out.list()));
         assert_eq!(answer, Err(2));
         assert_eq!(self.board.tick(lengths[0], lengths[1], powers.list(), lengths[3]), Err(2));
@@ -75,8 +73,8 @@ impl Pair {
             assert_eq!(numbered(dfb::read(state.list(), id)), Err(2));
             assert_eq!(model::read(state.list(), id), Err(2));
         }
-        assert_eq!((state, totals, out), before);
-        self.compare_memory();
+        assert_eq!((state, totals, powers, out), before);
+        self.keep(self.state.clone(), self.totals.clone());
     }
 }
 
@@ -97,20 +95,13 @@ fn resized<T: Copy>(list: &[T], length: usize, mut random: impl FnMut() -> T) ->
 }
 
 /// Compares a tick's answer and output, and checks demand 3's bounds on a report.
-fn compare_tick(
-    answer: Answer<dfb::Tick>,
-    expected: Answer<model::Tick>,
-    settings: &Settings,
-    before: &Buffer<u8>,
-    out: &mut Buffer<u8>,
-) -> Option<Vec<u8>> {
+fn compare_tick(answer: Answer<dfb::Tick>, expected: Answer<model::Tick>, settings: &Settings, before: &Buffer<u8>, out: &mut Buffer<u8>) {
     let simple = match expected {
         Ok(model::Tick::Reported(report)) => {
             assert_eq!(answer, Ok(dfb::Tick::Reported(report.bytes.len() / 3)));
             assert_eq!(*out, before.with(0, &report.bytes));
-            let written = out.list()[..report.bytes.len()].to_vec();
-            check_bounds(settings, &report.totals, &written);
-            return Some(written);
+            check_bounds(settings, &report.totals, out.list());
+            return;
         }
         Ok(model::Tick::Idle) => Ok(dfb::Tick::Idle),
         Ok(model::Tick::Collected) => Ok(dfb::Tick::Collected),
@@ -119,7 +110,6 @@ fn compare_tick(
     };
     assert_eq!(answer, simple);
     assert_eq!(out, before);
-    None
 }
 
 /// The code of a band in the bytes of a report: word j has band 2j + 1 in bits 15:8 and band 2j in bits 7:0.
@@ -196,7 +186,8 @@ fn random_registers(r: &mut Random) -> [u16; PROCESSORS] {
     })
 }
 
-fn random_call(r: &mut Random, pair: &mut Pair) -> Option<Vec<u8>> {
+/// Makes a random call; whether it reported.
+fn random_call(r: &mut Random, pair: &mut Pair) -> bool {
     match r.below(20) {
         0 => {
             let (id, information) = (0x30 + r.pick(&[0, 0, 0, 1, 2, 3, 4, 5, 6]), random_information(r));
@@ -211,16 +202,16 @@ fn random_call(r: &mut Random, pair: &mut Pair) -> Option<Vec<u8>> {
         }
         _ => {
             let (powers, mut out) = (random_powers(r), random_out(r));
-            return pair.tick(&powers, &mut out);
+            return matches!(pair.tick(&powers, &mut out), Ok(dfb::Tick::Reported(_)));
         }
     }
-    None
+    false
 }
 
 /// Runs a list of random calls; the number of reports.
 fn run_list(r: &mut Random, board: Board, calls: usize) -> usize {
     let mut pair = Pair::new(r, board);
-    (0..calls).filter(|_| random_call(r, &mut pair).is_some()).count()
+    (0..calls).filter(|_| random_call(r, &mut pair)).count()
 }
 
 // ---- tests ----
@@ -317,19 +308,19 @@ fn single_calls_and_lists_from_damaged_memory() {
 fn refuse_unsound(r: &mut Random, state: &[u16], totals: &[u64]) {
     let mut state = Buffer::new(state, || r.next() as u16);
     let mut totals = Buffer::new(totals, || r.next());
-    let powers = vec![r.next() as u32; POWERS];
+    let mut powers = Buffer::of_length(POWERS, || r.next() as u32);
     let mut out = random_out(r);
-    let before = (state.clone(), totals.clone(), out.clone());
-    assert_eq!(numbered(dfb::tick(state.list(), totals.list(), &powers, out.list())), Err(3));
-    assert_eq!(numbered(dfb::tick(state.list(), totals.list(), &powers[1..], out.list())), Err(2));
-    assert_eq!(numbered(dfb::tick(state.list(), totals.list(), &powers, &mut out.list()[..1175])), Err(2));
+    let before = (state.clone(), totals.clone(), powers.clone(), out.clone());
+    assert_eq!(numbered(dfb::tick(state.list(), totals.list(), powers.list(), out.list())), Err(3));
+    assert_eq!(numbered(dfb::tick(state.list(), totals.list(), &powers.list()[1..], out.list())), Err(2));
+    assert_eq!(numbered(dfb::tick(state.list(), totals.list(), powers.list(), &mut out.list()[..1175])), Err(2));
     for id in [0x2F, 0x30, 0x31, 0x36, 0x37] {
         let information = r.next() as u16;
         assert_eq!(numbered(dfb::command(state.list(), totals.list(), id, information)), Err(3));
         assert_eq!(numbered(dfb::command(state.list(), &mut totals.list()[1..], id, information)), Err(2));
         assert_eq!(numbered(dfb::read(state.list(), id)), model::read(state.list(), id));
     }
-    assert_eq!((state, totals, out), before);
+    assert_eq!((state, totals, powers, out), before);
 }
 
 /// Each slot at its largest sound total and one above it, at every setting and phase of some periods.
@@ -337,19 +328,21 @@ fn refuse_unsound(r: &mut Random, state: &[u16], totals: &[u64]) {
 fn limits_of_every_slot() {
     for setting in 0..3 {
         for (navg, ncad, phase) in [(0, 1, 0), (0, 1, 1), (2, 3, 1), (2, 3, 3), (2, 3, 4), (2, 3, 7), (10, 10, 1023)] {
-            let mut state = vec![ncad << 12 | navg << 8 | setting << 6 | 0x20, 0, 0x36, 0, 0, 0, 0x20, phase];
+            let state = [ncad << 12 | navg << 8 | setting << 6 | 0x20, 0, 0x36, 0, 0, 0, 0x20, phase];
             let settings = Settings::of(&state);
             let largest = |slot: usize| model::largest_total(&settings, phase as u64, slot / SLOTS, slot % SLOTS) as u64;
-            let mut totals: Vec<u64> = (0..TOTALS).map(largest).collect();
-            let (powers, mut out) = (vec![u32::MAX; POWERS], vec![0; 1176]);
-            for slot in 0..TOTALS {
-                totals[slot] += 1;
-                assert_eq!(numbered(dfb::tick(&mut state, &mut totals, &powers, &mut out)), Err(3), "slot {slot}");
-                totals[slot] -= 1;
-            }
+            let totals: Vec<u64> = (0..TOTALS).map(largest).collect();
+            let powers = vec![u32::MAX; POWERS];
             let mut r = Random::new(phase as u64);
             let mut pair = Pair::new(&mut r, Board::begin(&state, &totals).unwrap());
-            pair.tick(&powers, &mut random_out(&mut r));
+            let mut out = random_out(&mut r);
+            for slot in 0..TOTALS {
+                let mut memory = (pair.state.clone(), pair.totals.with(slot, &[totals[slot] + 1]), out.clone());
+                let before = memory.clone();
+                let answer = numbered(dfb::tick(memory.0.list(), memory.1.list(), &powers, memory.2.list()));
+                assert_eq!((answer, memory), (Err(3), before), "slot {slot}");
+            }
+            pair.tick(&powers, &mut out).unwrap();
         }
     }
 }
@@ -357,36 +350,42 @@ fn limits_of_every_slot() {
 /// Every value of every register: sound exactly where a write stores it.
 #[test]
 fn soundness_of_every_register() {
-    let mut state = [0; 8];
+    let mut state = Buffer::lent(&[0; 8]);
     for n in 0..PROCESSORS {
         for value in 0..=0xFFFF {
-            state[n] = value;
-            assert_eq!(numbered(dfb::read(&state, 0x30 + n as u8)), model::read(&state, 0x30 + n as u8));
+            state.list()[n] = value;
+            let (mut lent, id) = (state.clone(), 0x30 + n as u8);
+            assert_eq!(numbered(dfb::read(lent.list(), id)), model::read(state.list(), id));
+            assert_eq!(lent, state);
         }
-        state[n] = 0;
+        state.list()[n] = 0;
     }
 }
 
 /// Every information to every register.
 #[test]
 fn every_command() {
-    let (mut state, mut totals) = ([0; 8], [0; TOTALS]);
+    let (mut state, mut totals) = (Buffer::lent(&[0; 8]), Buffer::lent(&[0; TOTALS]));
+    let (mut expected, zeros) = (state.clone(), totals.clone());
     for id in 0x30..=0x36 {
-        for information in 0..=0xFFFF {
+        for information in (0..=0xFFFF).chain([0]) {
             let value = model::stored(id, information);
-            assert_eq!(numbered(dfb::command(&mut state, &mut totals, id, information)), value);
-            assert_eq!(numbered(dfb::read(&state, id)), value);
-            assert_eq!(numbered(dfb::command(&mut state, &mut totals, id, value.unwrap())), value);
+            expected.list()[id as usize - 0x30] = value.unwrap();
+            assert_eq!(numbered(dfb::command(state.list(), totals.list(), id, information)), value);
+            assert!(state == expected && totals == zeros, "ID {id}, information {information}");
+            assert_eq!(numbered(dfb::read(state.list(), id)), value);
+            assert_eq!(numbered(dfb::command(state.list(), totals.list(), id, value.unwrap())), value);
+            assert!(state == expected && totals == zeros, "ID {id}, information {information}");
         }
-        dfb::command(&mut state, &mut totals, id, 0).unwrap();
-        assert_eq!(state, [0; 8]);
     }
     for id in 0..=0xFF {
-        assert_eq!(numbered(dfb::command(&mut state, &mut totals, id, 0)), model::stored(id, 0));
+        assert_eq!(numbered(dfb::command(state.list(), totals.list(), id, 0)), model::stored(id, 0));
+        assert!(state == expected && totals == zeros, "ID {id}");
     }
 }
 
-/// The longest period, N = C = 1024, with the largest powers for all processors and then with random ones.
+/// The longest period, N = C = 1024, with the largest powers for all processors and then with random ones. The plain book sums all its
+/// spectra for the report; beside it a board that begins anew with each tick has the totals so far.
 #[test]
 fn longest_periods() {
     for setting in 0..3 {
@@ -396,21 +395,16 @@ fn longest_periods() {
         for id in 0x31..=0x36 {
             pair.command(id, 0x20).unwrap();
         }
-        let (mut state, mut totals) = (pair.board.state(), pair.board.totals());
-        for tick in 0..1024 {
+        let mut book = pair.board.clone();
+        for _ in 0..1024 {
             let powers = if setting == 0 { vec![u32::MAX; POWERS] } else { random_powers(&mut r) };
             let mut out = random_out(&mut r);
-            let (before, settings) = (out.clone(), pair.board.settings());
-            let answer = numbered(dfb::tick(&mut state, &mut totals, &powers, out.list()));
-            let expected = pair.board.tick(8, TOTALS, &powers, 1176);
-            compare_tick(answer, expected, &settings, &before, &mut out);
-            assert_eq!(state, pair.board.state());
-            // The model sums all spectra anew each time.
-            if tick % 128 == 0 || tick >= 1022 {
-                assert_eq!(totals, pair.board.totals());
-            }
+            let (before, settings) = (out.clone(), book.settings());
+            let answer = pair.tick(&powers, &mut out);
+            compare_tick(answer, book.tick(8, TOTALS, &powers, 1176), &settings, &before, &mut out);
+            pair.board = Board::begin(&pair.board.state(), &pair.board.totals()).unwrap();
         }
-        assert_eq!(pair.board.phase, 0);
+        assert_eq!((book.phase, book.state(), book.totals()), (0, pair.board.state(), pair.board.totals()));
     }
 }
 
@@ -423,18 +417,15 @@ fn rows_of_disabled_processors() {
         state.push(0);
         let board = Board::begin(&state, &[0; TOTALS]).unwrap();
         let enabled = board.settings().enabled;
-        let (mut state, mut totals) = (board.state(), board.totals());
-        let (mut other_state, mut other_totals) = (state.clone(), totals.clone());
-        let (mut out, mut other_out) = (vec![0; 1176], vec![0; 1176]);
+        let (mut pair, mut other) = (Pair::new(&mut r, board.clone()), Pair::new(&mut r, board));
         for _ in 0..20 {
-            let powers = random_powers(&mut r);
-            let mut other_powers = random_powers(&mut r);
+            let (powers, mut out) = (random_powers(&mut r), random_out(&mut r));
+            let (mut other_powers, mut other_out) = (random_powers(&mut r), out.clone());
             for &n in &enabled {
                 other_powers[n * BINS..][..BINS].copy_from_slice(&powers[n * BINS..][..BINS]);
             }
-            let answer = dfb::tick(&mut state, &mut totals, &powers, &mut out);
-            assert_eq!(answer, dfb::tick(&mut other_state, &mut other_totals, &other_powers, &mut other_out));
-            assert_eq!((&state, &totals, &out), (&other_state, &other_totals, &other_out));
+            assert_eq!(pair.tick(&powers, &mut out), other.tick(&other_powers, &mut other_out));
+            assert_eq!((pair.state.list(), pair.totals.list(), out), (other.state.list(), other.totals.list(), other_out));
         }
     }
 }
@@ -453,11 +444,59 @@ fn larger_powers() {
         for _ in 0..settings.averaged {
             let powers = random_powers(&mut r);
             let more: Vec<u32> = powers.iter().map(|&power| power.saturating_add(r.pick(&[0, 0, 1, 1000, u32::MAX]))).collect();
-            let reports = (smaller.tick(&powers, &mut random_out(&mut r)), larger.tick(&more, &mut random_out(&mut r)));
-            if let (Some(less), Some(more)) = reports {
-                let (less, more) = (printed_values(&settings, &less), printed_values(&settings, &more));
+            let (mut less_out, mut more_out) = (random_out(&mut r), random_out(&mut r));
+            let answer = smaller.tick(&powers, &mut less_out);
+            assert_eq!(larger.tick(&more, &mut more_out), answer);
+            if let Ok(dfb::Tick::Reported(_)) = answer {
+                let (less, more) = (printed_values(&settings, less_out.list()), printed_values(&settings, more_out.list()));
                 assert!(less.iter().flatten().zip(more.iter().flatten()).all(|(less, more)| less <= more));
             }
         }
     }
+}
+
+/// The methods of a board from reset, beside the functions on memory of the caller, and so beside the model.
+#[test]
+fn methods_of_a_board() {
+    let mut reports = 0;
+    for seed in seeds(150) {
+        let mut r = Random::new(6 << 32 | seed);
+        let (mut methods, mut pair) = (dfb::Board::reset(), Pair::new(&mut r, Board::reset()));
+        for _ in 0..r.pick(&[1, 10, 40, 120]) {
+            let before = methods.clone();
+            let is_refused = match r.below(10) {
+                0 | 1 => {
+                    let id = r.pick(&[0x2F, 0x30, 0x30, 0x30, 0x31, 0x32, 0x33, 0x34, 0x35, 0x36, 0x37]);
+                    let information = random_information(&mut r);
+                    let answer = numbered(methods.command(id, information));
+                    assert_eq!(answer, pair.command(id, information));
+                    answer.is_err()
+                }
+                2 => {
+                    let (powers_len, out_len) = r.pick(&[(POWERS - 1, 1176), (POWERS + 1, 1176), (POWERS, 1175), (0, 0)]);
+                    let mut out = Buffer::of_length(out_len, || r.next() as u8);
+                    let out_before = out.clone();
+                    assert_eq!(numbered(methods.tick(&vec![1; powers_len], out.list())), Err(2));
+                    assert_eq!(out, out_before);
+                    true
+                }
+                _ => {
+                    let (powers, mut out) = (random_powers(&mut r), random_out(&mut r));
+                    let mut expected = out.clone();
+                    let answer = numbered(methods.tick(&powers, out.list()));
+                    assert_eq!(answer, pair.tick(&powers, &mut expected));
+                    assert_eq!(out, expected);
+                    reports += matches!(answer, Ok(dfb::Tick::Reported(_))) as usize;
+                    answer.is_err()
+                }
+            };
+            if is_refused {
+                assert!(methods == before);
+            }
+            for id in (0x2F..=0x37).chain([r.next() as u8]) {
+                assert_eq!(numbered(methods.read(id)), model::read(&pair.board.state(), id));
+            }
+        }
+    }
+    assert!(reports > 500, "only {reports} reports");
 }

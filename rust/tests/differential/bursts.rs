@@ -70,28 +70,28 @@ fn finish(status: &mut [u8], criteria: &mut [u32]) -> Answer<usize> {
     Ok(change(status, criteria, slot, FREE, 0))
 }
 
-/// Lists of calls, from slots that are sound and from others, compare the answer and every element of both lists.
+/// Lists of calls, from slots that are sound and from others.
 #[test]
 fn lists_of_calls() {
     for seed in seeds(4_000) {
         let mut r = Random::new(seed);
-        let count = r.pick(&[0, 1, 2, 3, 5, 31, 32, 33]);
-        let other = if r.below(20) == 0 { count + 1 } else { count };
+        let count: usize = r.pick(&[0, 1, 2, 3, 5, 31, 32, 33]);
+        let other = if r.below(20) == 0 { r.pick(&[count + 1, count.saturating_sub(1)]) } else { count };
         let most = if r.below(10) == 0 { 4 } else { 2 };
         let mut status = Buffer::of_length(count, || r.below(most) as u8);
         let mut criteria = Buffer::of_length(other, || r.pick(&[0, 1, 2, 3, u32::MAX]));
         for _ in 0..40 {
-            let (mut s, mut c) = (status.list().to_vec(), criteria.list().to_vec());
+            let (mut s, mut c) = (status.clone(), criteria.clone());
             match r.below(4) {
-                0 => assert_eq!(numbered(dfb::burst_choose(status.list(), criteria.list())), choose(&mut s, &mut c), "seed {seed}"),
-                1 => assert_eq!(numbered(dfb::burst_finish(status.list(), criteria.list())), finish(&mut s, &mut c), "seed {seed}"),
+                0 => assert_eq!(numbered(dfb::burst_choose(status.list(), criteria.list())), choose(s.list(), c.list())),
+                1 => assert_eq!(numbered(dfb::burst_finish(status.list(), criteria.list())), finish(s.list(), c.list())),
                 _ => {
                     let criterion = r.pick(&[0, 1, 2, 3, 4, u32::MAX]);
                     let answer = numbered(dfb::burst_offer(status.list(), criteria.list(), criterion));
-                    assert_eq!(answer, offer(&mut s, &mut c, criterion), "seed {seed}");
+                    assert_eq!(answer, offer(s.list(), c.list(), criterion));
                 }
             }
-            assert_eq!((status.list().to_vec(), criteria.list().to_vec()), (s, c), "seed {seed}");
+            assert_eq!((&status, &criteria), (&s, &c));
         }
     }
 }
@@ -131,6 +131,12 @@ fn interval(index: &[u32], bonus: u32, limit: u32) -> Answer<(usize, usize)> {
     Ok((first, last))
 }
 
+fn compare_interval(index: &[u32], bonus: u32, limit: u32) {
+    let mut lent = Buffer::lent(index);
+    assert_eq!(numbered(dfb::choose_interval(lent.list(), bonus, limit)), interval(index, bonus, limit));
+    assert!(lent == Buffer::lent(index));
+}
+
 #[test]
 fn intervals() {
     for seed in seeds(20_000) {
@@ -140,12 +146,17 @@ fn intervals() {
         let index: Vec<u32> = (0..length).map(|_| r.below(most) as u32 * r.pick(&[1, 1, 42_949_672])).collect();
         let bonus = r.pick(&[0, 1, 3, 50, u32::MAX]);
         let limit = r.pick(&[0, 1, 2, 3, 7, 40, u32::MAX]);
-        assert_eq!(numbered(dfb::choose_interval(&index, bonus, limit)), interval(&index, bonus, limit), "seed {seed}");
+        compare_interval(&index, bonus, limit);
+    }
+    for first in [0, 255, 256, 4096, 15_998] {
+        let mut index = vec![0; 16_000];
+        index[first..first + 2].fill(7);
+        assert_eq!(numbered(dfb::choose_interval(&index, 0, 5)), Ok((first, first + 1)));
     }
     for length in [15_999, 16_000, 16_001] {
         let index: Vec<u32> = (0..length).map(|i| i * 7919 % 1013).collect();
         for (bonus, limit) in [(0, 5), (2000, u32::MAX), (2000, 1000)] {
-            assert_eq!(numbered(dfb::choose_interval(&index, bonus, limit)), interval(&index, bonus, limit));
+            compare_interval(&index, bonus, limit);
         }
     }
 }

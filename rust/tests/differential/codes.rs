@@ -88,6 +88,27 @@ fn every_setting_and_band() {
     }
 }
 
+/// The number to the bit.
+#[test]
+fn every_cadence() {
+    let mut r = Random::new(3);
+    for choice in 0..=0xFF {
+        for length in [0, 1, 5] {
+            let mut value = Buffer::of_length(length, || f32::from_bits(r.next() as u32));
+            let before = value.clone();
+            let answer = numbered(dfb::cadence_of(choice, value.list()));
+            let (expected, after) = match model::cadence_of(choice) {
+                Err(refusal) => (Err(refusal), before),
+                Ok(_) if length == 0 => (Err(2), before),
+                Ok(model::Cadence::Rate(rate)) => (Ok(dfb::Cadence::Rate), before.with(0, &[rate])),
+                Ok(model::Cadence::Period(period)) => (Ok(dfb::Cadence::Period), before.with(0, &[period])),
+            };
+            assert_eq!(answer, expected, "choice {choice}, length {length}");
+            assert!(value.bits() == after.bits(), "choice {choice}, length {length}");
+        }
+    }
+}
+
 impl Buffer<f32> {
     fn bits(&self) -> Vec<u32> {
         self.all().iter().map(|x| x.to_bits()).collect()

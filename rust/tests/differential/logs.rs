@@ -1,7 +1,9 @@
 //! Logs through append and listing: whole, damaged, refused records among them, and lengths about the limit.
-use crate::model::{self, Board, Record, Settings, POWERS, SPEC, TOTALS, WAVEFORMS};
+use crate::board::{random_out, random_powers, Pair};
+use crate::model::{self, Board, Record, Settings, SPEC, WAVEFORMS};
 use crate::numbered;
 use crate::random::{seeds, Buffer, Random};
+use crate::readings::compare_walk;
 
 /// A log in a buffer, with the records that were appended.
 struct Log {
@@ -17,28 +19,21 @@ impl Log {
 
     /// Appends, whether the record is refused or not.
     fn append(&mut self, kind: u8, a: u8, b: u32) -> bool {
-        let expected = model::append(self.buffer.list().len(), self.used, kind, a, b);
-        let before = self.buffer.clone();
+        let mut expected = self.buffer.clone();
         let answer = numbered(dfb::append(self.buffer.list(), self.used, kind, a, b));
-        match expected {
-            Err(refusal) => {
-                assert_eq!(answer, Err(refusal));
-                assert_eq!(self.buffer, before);
-                false
-            }
-            Ok(bytes) => {
-                assert_eq!(answer, Ok(self.used + bytes.len()));
-                assert_eq!(self.buffer, before.with(self.used, &bytes));
-                self.used += bytes.len();
-                self.records.push(match kind {
-                    1 => Record::Command(a, b as u16),
-                    2 => Record::Word(a, (b >> 8) as u8, b as u8),
-                    3 => Record::SecondMark(b),
-                    _ => Record::Tick,
-                });
-                true
-            }
-        }
+        assert_eq!(answer, model::append(expected.list(), self.used, kind, a, b));
+        assert_eq!(self.buffer, expected);
+        let Ok(used) = answer else {
+            return false;
+        };
+        self.used = used;
+        self.records.push(match kind {
+            1 => Record::Command(a, b as u16),
+            2 => Record::Word(a, (b >> 8) as u8, b as u8),
+            3 => Record::SecondMark(b),
+            _ => Record::Tick,
+        });
+        true
     }
 
     fn bytes(&mut self) -> &[u8] {
@@ -47,30 +42,31 @@ impl Log {
 
     /// It reads back as the same records and then the end.
     fn compare_records(&mut self) {
-        let (read, fault) = model::records(self.bytes());
-        assert_eq!(fault, None);
-        assert!(read.iter().map(|(_, record)| record).eq(&self.records));
+        assert_eq!(model::records(self.bytes()), (self.records.clone(), None));
+        compare_walk(self.bytes());
     }
 }
 
 /// Compares the listing with room to spare, with no room to spare, and with one byte too few.
 fn compare_listing(r: &mut Random, log: &[u8]) -> String {
-    let text = model::listing(log);
     let room = model::listing_room(log.len());
-    assert!(text.len() <= room);
-    for extra in [0, r.below(100)] {
-        let mut out = Buffer::of_length(room + extra, || 0x5A ^ r.next() as u8);
-        let expected = out.with(0, text.as_bytes());
-        let answer = numbered(dfb::listing(log, out.list()));
-        assert_eq!(answer, Ok(text.len()), "{text}");
-        assert!(out == expected, "{text}");
-    }
+    let text = listed(r, log, room).unwrap();
+    let spare = r.below(100);
+    assert_eq!(listed(r, log, room + spare).as_ref(), Ok(&text));
     let short = r.pick(&[room - 1, room - 1, room / 2, 0]);
-    let mut out = Buffer::of_length(short, || r.next() as u8);
-    let before = out.clone();
-    assert_eq!(numbered(dfb::listing(log, out.list())), Err(2));
-    assert!(out == before);
+    assert_eq!(listed(r, log, short), Err(2));
     text
+}
+
+/// The listing in an output of some length.
+fn listed(r: &mut Random, log: &[u8], room: usize) -> model::Answer<String> {
+    let mut out = Buffer::of_length(room, || r.next() as u8);
+    let (mut expected, mut lent) = (out.clone(), Buffer::lent(log));
+    let answer = numbered(dfb::listing(lent.list(), out.list()));
+    assert_eq!(answer, model::listing(log, expected.list()));
+    assert!(lent == Buffer::lent(log));
+    assert!(out == expected, "{}", String::from_utf8_lossy(expected.list()));
+    answer.map(|count| String::from_utf8(out.list()[..count].to_vec()).unwrap())
 }
 
 fn legal_code(r: &mut Random) -> u8 {
@@ -214,22 +210,18 @@ fn logs_of_a_running_board() {
     for seed in seeds(40) {
         let mut r = Random::new(4 << 32 | seed);
         let mut log = Log::new(&mut r, 60_000);
-        let (mut state, mut totals) = ([0; 8], [0; TOTALS]);
-        let mut board = Board::reset();
+        let mut pair = Pair::new(&mut r, Board::reset());
         for _ in 0..40 {
             if r.percent(20) {
                 let (id, information) = (0x30 + r.pick(&[0, 0, 0, 1, 3, 6]), r.pick(&[0x0020, 0x1060, 0x11A3, 0x0036, 0x2122]));
-                assert_eq!(dfb::command(&mut state, &mut totals, id, information), Ok(board.command(8, TOTALS, id, information).unwrap()));
+                pair.command(id, information).unwrap();
                 assert!(log.append(1, id, information as u32));
             }
-            let powers: Vec<u32> = (0..POWERS).map(|_| (r.any_size() >> 32) as u32).collect();
-            let mut out = [0; 1176];
-            let answer = dfb::tick(&mut state, &mut totals, &powers, &mut out);
+            let (powers, mut out) = (random_powers(&mut r), random_out(&mut r));
+            let answer = pair.tick(&powers, &mut out);
             assert!(log.append(4, 0, 0));
-            if let Ok(model::Tick::Reported(report)) = board.tick(8, TOTALS, &powers, 1176) {
-                assert_eq!(answer, Ok(dfb::Tick::Reported(report.bytes.len() / 3)));
-                assert_eq!(out[..report.bytes.len()], report.bytes);
-                for word in out[..report.bytes.len()].chunks(3) {
+            if let Ok(dfb::Tick::Reported(words)) = answer {
+                for word in out.list().chunks(3).take(words) {
                     assert!(log.append(2, word[0], word[1] as u32 * 256 + word[2] as u32));
                 }
             }

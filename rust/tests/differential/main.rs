@@ -8,6 +8,8 @@ mod model;
 mod numbers;
 mod plain;
 mod random;
+mod readings;
+mod refusals;
 mod sets;
 
 #[allow(dead_code)]

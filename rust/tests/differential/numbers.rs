@@ -1,5 +1,5 @@
 //! 01, "Numbers on both sides" and the whole case, copied by hand.
-use dfb::Refusal;
+use dfb::{Cadence, Refusal};
 
 #[test]
 fn registers() {
@@ -46,6 +46,19 @@ fn bands() {
     }
 }
 
+/// 8/C per second with C up to 8, then C/8 seconds.
+#[test]
+fn cadences() {
+    for (choice, cadence, number) in
+        [(0, Cadence::Rate, 8.0), (3, Cadence::Rate, 1.0), (4, Cadence::Period, 2.0), (10, Cadence::Period, 128.0)]
+    {
+        let mut value = [0.0];
+        assert_eq!(dfb::cadence_of(choice, &mut value), Ok(cadence));
+        assert_eq!(value, [number]);
+    }
+    assert_eq!(dfb::cadence_of(11, &mut [0.0]), Err(Refusal::OutOfRange));
+}
+
 /// N = 2, a one-bin band: powers 8 and 11 print 8, powers 0 and 1 print 0.
 #[test]
 fn two_spectra() {
@@ -69,6 +82,13 @@ fn whole_case() {
     let mut out = [0; 200];
     let count = dfb::listing(log, &mut out).unwrap();
     assert_eq!(out[..count], *b"DFB LOG 1\nC 30 0063\nW 43 1 -1 -32768\nS 7\nT\nEND 6\n");
+    let mut at = 0;
+    for expected in [[1, 0x30, 0x00E3], [2, 0x43, 1], [2, 0x43, 0xFFFF], [2, 0x43, 0x8000], [3, 0, 7], [4, 0, 0], [0, 0, 0]] {
+        let mut record = [9; 3];
+        at = dfb::read_record(log, at, &mut record).unwrap();
+        assert_eq!(record, expected);
+    }
+    assert_eq!(at, log.len());
     let count = dfb::listing(b"", &mut out).unwrap();
     assert_eq!(out[..count], *b"DFB LOG 1\nEND 0\n");
 }

@@ -1,7 +1,7 @@
-//! The plain C and the plain Rust of the benchmark against the model, so that it compares programs that do the same.
-use crate::implementations::plain;
+//! The plain C of the benchmark and its plain Rust tick against the model, so that it compares programs that do the same.
+use crate::implementations::{plain_c, plain_rust};
 use crate::model::{self, Board, POWERS, TOTALS};
-use crate::random::{seeds, Random};
+use crate::random::{seeds, Buffer, Random};
 use crate::{board, logs};
 
 /// A tick's answer as a number of include/dfb.h.
@@ -17,7 +17,7 @@ fn tick_number(answer: &model::Answer<model::Tick>) -> u32 {
 
 #[test]
 fn ticks() {
-    for implementation in plain() {
+    for implementation in plain_c().into_iter().chain([plain_rust()]) {
         for seed in seeds(500) {
             let mut r = Random::new(seed);
             let (mut state, mut totals) = board::random_memory(&mut r);
@@ -25,22 +25,24 @@ fn ticks() {
                 board::damage(&mut r, &mut state, &mut totals);
             }
             let mut board = Board::begin(&state, &totals);
+            let mut memory = (Buffer::new(&state, || r.next() as u16), Buffer::new(&totals, || r.next()));
             for _ in 0..8 {
                 let powers = board::random_powers(&mut r);
                 let mut out = board::random_out(&mut r);
-                let mut expected_out = out.clone();
+                let (mut expected, mut expected_out) = (memory.clone(), out.clone());
                 let answer = match &mut board {
                     Ok(board) => board.tick(8, TOTALS, &powers, 1176),
                     Err(refusal) => Err(*refusal),
                 };
+                if let Ok(board) = &board {
+                    expected = (memory.0.with(0, &board.state()), memory.1.with(0, &board.totals()));
+                }
                 if let Ok(model::Tick::Reported(report)) = &answer {
                     expected_out = out.with(0, &report.bytes);
                 }
-                assert_eq!((implementation.tick)(&mut state, &mut totals, &powers, out.list()), tick_number(&answer));
-                assert_eq!(out, expected_out);
-                if let Ok(board) = &board {
-                    assert_eq!((&state, &totals), (&board.state(), &board.totals()));
-                }
+                let number = (implementation.tick)(memory.0.list(), memory.1.list(), &powers, out.list());
+                assert_eq!(number, tick_number(&answer));
+                assert_eq!((&memory, &out), (&expected, &expected_out));
             }
         }
         let (mut state, mut totals, powers, mut out) = ([0; 8], [0; TOTALS], [0; POWERS], [0; 1176]);
@@ -53,21 +55,16 @@ fn ticks() {
 
 #[test]
 fn packs() {
-    for implementation in plain() {
+    let mut r = Random::new(0);
+    for implementation in plain_c() {
         for apid in 0..=0xFF {
             for length in 0..=8 {
                 let samples = &[-32768, -256, -1, 0, 1, 255, 256, 32767][..length];
                 for out_len in [0, 8, 9, 17, 18, 20, 21, 30] {
-                    let mut out = vec![0xAA; out_len];
+                    let mut out = Buffer::of_length(out_len, || r.next() as u8);
                     let mut expected = out.clone();
-                    let number = match model::pack(apid, samples, out_len) {
-                        Ok(bytes) => {
-                            expected[..bytes.len()].copy_from_slice(&bytes);
-                            bytes.len() as u32
-                        }
-                        Err(refusal) => 0x10000 + refusal as u32,
-                    };
-                    assert_eq!((implementation.pack)(apid, samples, &mut out), number);
+                    let number = (plain_rust().pack)(apid, samples, expected.list());
+                    assert_eq!((implementation.pack)(apid, samples, out.list()), number);
                     assert_eq!(out, expected);
                 }
             }
@@ -77,18 +74,20 @@ fn packs() {
 
 #[test]
 fn listings() {
-    for implementation in plain() {
+    for implementation in plain_c() {
         for seed in seeds(1000) {
             let mut r = Random::new(seed);
             let most = r.pick(&[0, 10, 200, 1000, 66000]);
             let mut log = logs::random_log(&mut r, most);
             for _ in 0..3 {
-                let text = model::listing(&log);
-                let mut out = vec![0; model::listing_room(log.len())];
-                let count = (implementation.listing)(&log, &mut out);
-                assert_eq!(std::str::from_utf8(&out[..count as usize]).unwrap(), text);
-                out.pop();
-                assert_eq!((implementation.listing)(&log, &mut out), (1 << 63) + 2);
+                let room = model::listing_room(log.len());
+                for room in [room, room - 1] {
+                    let mut out = Buffer::of_length(room, || r.next() as u8);
+                    let mut expected = out.clone();
+                    let number = (plain_rust().listing)(&log, expected.list());
+                    assert_eq!((implementation.listing)(&log, out.list()), number);
+                    assert!(out == expected, "{}", String::from_utf8_lossy(expected.list()));
+                }
                 logs::damage(&mut r, &mut log);
             }
         }

@@ -79,6 +79,14 @@ impl<T: Copy> Buffer<T> {
         Buffer::new(&contents, random)
     }
 
+    /// A list with fixed margins.
+    pub fn lent(contents: &[T]) -> Buffer<T>
+    where
+        T: From<u8>,
+    {
+        Buffer::new(contents, || T::from(0x5A))
+    }
+
     pub fn list(&mut self) -> &mut [T] {
         let end = self.all.len() - MARGIN;
         &mut self.all[MARGIN..end]

@@ -10,20 +10,16 @@ fn random_sample(r: &mut Random) -> i16 {
 
 fn compare_pack(r: &mut Random, apid: u8, samples: &[i16], out_len: usize) {
     let mut out = Buffer::of_length(out_len, || r.next() as u8);
-    let before = out.clone();
-    let answer = numbered(dfb::pack(apid, samples, out.list()));
-    let expected = model::pack(apid, samples, out_len);
-    assert_eq!(answer, expected.as_ref().map(Vec::len).map_err(|&refusal| refusal));
-    assert_eq!(out, expected.map_or(before.clone(), |bytes| before.with(0, &bytes)));
+    let (mut expected, mut lent) = (out.clone(), Buffer::lent(samples));
+    assert_eq!(numbered(dfb::pack(apid, lent.list(), out.list())), model::pack(apid, samples, expected.list()));
+    assert_eq!((lent, out), (Buffer::lent(samples), expected));
 }
 
 fn compare_unpack(r: &mut Random, apid: u8, bytes: &[u8], samples_len: usize) {
     let mut samples = Buffer::of_length(samples_len, || r.next() as i16);
-    let before = samples.clone();
-    let answer = numbered(dfb::unpack(apid, bytes, samples.list()));
-    let expected = model::unpack(apid, bytes, samples_len);
-    assert_eq!(answer, expected.as_ref().map(Vec::len).map_err(|&refusal| refusal));
-    assert_eq!(samples, expected.map_or(before.clone(), |unpacked| before.with(0, &unpacked)));
+    let (mut expected, mut lent) = (samples.clone(), Buffer::lent(bytes));
+    assert_eq!(numbered(dfb::unpack(apid, lent.list(), samples.list())), model::unpack(apid, bytes, expected.list()));
+    assert_eq!((lent, samples), (Buffer::lent(bytes), expected));
 }
 
 /// Every APID with every length up to 9 words.
@@ -50,11 +46,13 @@ fn round_trips_and_damaged_sets() {
         let mut r = Random::new(seed);
         let (apid, words) = r.pick(&WAVEFORMS);
         let samples: Vec<i16> = (0..words).map(|_| random_sample(&mut r)).collect();
-        let mut bytes = vec![0; 3 * words];
-        assert_eq!(dfb::pack(apid, &samples, &mut bytes), Ok(3 * words));
-        let mut unpacked = vec![0; words];
-        assert_eq!(dfb::unpack(apid, &bytes, &mut unpacked), Ok(words));
-        assert_eq!(unpacked, samples);
+        let mut out = Buffer::of_length(3 * words, || r.next() as u8);
+        assert_eq!(dfb::pack(apid, &samples, out.list()), Ok(3 * words));
+        let mut bytes = out.list().to_vec();
+        let mut unpacked = Buffer::of_length(words, || r.next() as i16);
+        let before = unpacked.clone();
+        assert_eq!(dfb::unpack(apid, &bytes, unpacked.list()), Ok(words));
+        assert_eq!(unpacked, before.with(0, &samples));
 
         let place = r.below(bytes.len());
         bytes[place] = r.pick(&[apid, apid ^ 1, 0x43, 0x44, 0x4E, 0, 0xFF]);

@@ -3,7 +3,7 @@
 # A call is a letter: a digit is an offer of that criterion, ! an offer of the greatest criterion, c choose, f finish.
 import os
 here = os.path.dirname(os.path.abspath(__file__))
-crate = os.path.join(here, "..", "crates", "bursts_cases")
+crate = os.path.join(here, "..", "..", "crates", "bursts_cases")
 
 # comment, slots, how many of the first are sending, calls
 cases = [

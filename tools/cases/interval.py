@@ -3,7 +3,7 @@
 import os
 from itertools import takewhile, zip_longest
 here = os.path.dirname(os.path.abspath(__file__))
-crate = os.path.join(here, "..", "crates", "interval_cases")
+crate = os.path.join(here, "..", "..", "crates", "interval_cases")
 TOP = 2**32 - 1
 
 # comment, index, bonus, limit

@@ -1,5 +1,5 @@
 #!/usr/bin/env python3
-"""setlist_cases.py: writes the input of crates/setlist_cases from the list of cases below, and its expected output from listing_model.py.
+"""Writes the input of crates/setlist_cases from the list of cases below, and its expected output from listing_model.py.
 
 In the input each log stands after its length in two bytes, high byte first.
 """
@@ -8,7 +8,7 @@ import struct
 
 from listing_model import LEGAL, listing
 
-CRATE = os.path.join(os.path.dirname(os.path.abspath(__file__)), "..", "crates", "setlist_cases")
+CRATE = os.path.join(os.path.dirname(os.path.abspath(__file__)), "..", "..", "crates", "setlist_cases")
 
 
 def h(text):

@@ -1,5 +1,5 @@
 #!/usr/bin/env python3
-"""samples.py: writes samples/*.log and, from listing_model.py, their listings samples/*.txt.
+"""Writes samples/*.log and, from listing_model.py, their listings samples/*.txt.
 
 day-start: the first minute of a survey. Commands set processors 1 and 4 (36 bands, N = 4, C = 8), second marks and ticks follow, each second
 has survey sets, and each report its SPEC set. The spectra are made by a small board here: a falling power law with a line at 1,600 Hz.
@@ -11,7 +11,7 @@ import struct
 
 from listing_model import BANDS, listing, stored
 
-HERE = os.path.join(os.path.dirname(os.path.abspath(__file__)), "..", "samples")
+HERE = os.path.join(os.path.dirname(os.path.abspath(__file__)), "..", "..", "samples")
 BINS = 1024
 
 

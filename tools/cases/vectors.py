@@ -10,7 +10,7 @@ import sys
 
 from frequency_tables import rows
 
-CRATES = os.path.join(os.path.dirname(os.path.abspath(__file__)), "..", "crates")
+CRATES = os.path.join(os.path.dirname(os.path.abspath(__file__)), "..", "..", "crates")
 
 NUMBERS = """\
 band code of 9 0c

@@ -1,0 +1,31 @@
+//! The refusals: numbers and texts, copied by hand.
+use dfb::Refusal;
+
+const REFUSALS: [(Refusal, u8, &str); 18] = [
+    (Refusal::UnknownCommand, 1, "the command ID is outside 0x30 to 0x36"),
+    (Refusal::WrongLength, 2, "a list has a wrong length, an output is too small, or a place or number does not fit"),
+    (Refusal::UnsoundState, 3, "the state is not one that the board or the slots can have left"),
+    (Refusal::UnknownApid, 4, "the APID is none of the seven, or 0x4E where a waveform's is wanted"),
+    (Refusal::IncompleteSet, 5, "the set is not complete"),
+    (Refusal::NoProcessorEnabled, 6, "a SPEC word with no processor enabled"),
+    (Refusal::IllegalBandCode, 7, "the band code is not legal"),
+    (Refusal::SumCodeOverflow, 8, "the sum code's value is 2^64 or more"),
+    (Refusal::UnknownRecordKind, 9, "the record kind is none of 1 to 4"),
+    (Refusal::TruncatedBody, 10, "the log ends within a record"),
+    (Refusal::InputTooLong, 11, "the log is over 65,536 bytes"),
+    (Refusal::OutOfRange, 12, "a bin setting, band, FFT bin or NCAD choice is out of range"),
+    (Refusal::MeanOverflow, 13, "a band mean is over 2^32 - 1"),
+    (Refusal::TurnedAway, 25, "no slot is free and no held slot has a smaller criterion"),
+    (Refusal::NothingToSend, 26, "nothing is held to send, or no criterion is above 0"),
+    (Refusal::AlreadySending, 27, "a slot is already sending"),
+    (Refusal::NoneSending, 28, "no slot is sending"),
+    (Refusal::ZeroLimit, 29, "the limit is 0 blocks"),
+];
+
+#[test]
+fn numbers_and_texts() {
+    for (refusal, number, meaning) in REFUSALS {
+        assert_eq!((refusal.number(), refusal.meaning()), (number, meaning));
+        assert_eq!(refusal.to_string(), format!("refusal {number}: {meaning}"));
+    }
+}
