@@ -1,12 +1,24 @@
-/* The stand-in for the Digital Fields Board, for C programs. Link libdfb.a or libdfb.so.
+/* dfb.h: the stand-in for the Digital Fields Board, for C99 and C++ programs. Link libdfb.a or libdfb.so (pkg-config: dfb).
  *
- * Every function is proved: for every input, refused ones too, its answer and the later contents of every list are those of the rules
- * (docs/AUDIT.md). Each list is a pointer and then its length in elements. Pointers are valid for that length and do not overlap; that
- * is all a caller owes. A refusal is answered as a base plus its number, which no other answer of that function equals, and changes
- * nothing.
+ * Every function with external linkage is proved: for every input, refused ones too, its answer and the later contents of every list are
+ * those of the rules (AUDIT.md). The inline functions take answers apart and give lengths; they are tested against the proved ones.
+ * HANDBOOK.md has the rules for people: registers and their fields, reports, bands, words, the log, bursts, and a remedy for each refusal.
  *
- * A state is eight numbers: registers 0x30 to 0x36 and then the phase. All 0 is the state after reset. Totals are 784 numbers, all 0 after
- * reset. Keep both as the last call left them. A state of another length than 8 is refusal 2.
+ * A call ends in an answer or in a refusal, which has a number (enum dfb_refusal_number). A refused call changes nothing: the state and every
+ * list are as they were. Nothing has to be checked before a call; lists of any length may be passed, and a wrong length is refused by 2.
+ * The refusals of a function are named in the order in which they are given. In an output longer than needed, all behind the part written
+ * stays as it was.
+ *
+ * What a caller owes:
+ * - A list is a pointer and then its length in elements. The pointer is valid for that many elements and aligned for their type.
+ * - The elements of every list, an output too, have been written before the call; what was written does not matter.
+ * - A list of length 0 may have any pointer, NULL too.
+ * - No two lists of one call overlap.
+ * - During a call no other thread writes to its lists, nor reads those that are not const.
+ * The library has no state of its own, allocates nothing and calls nothing but memory functions of the C library. Calls on different lists
+ * may run side by side in different threads.
+ *
+ * Platform: Linux on x86-64; glibc 2.14 or later.
  */
 #ifndef DFB_H
 #define DFB_H
@@ -14,82 +26,327 @@
 #include <stddef.h>
 #include <stdint.h>
 
+/* The minor number rises with every function that is added or changed; the soname of libdfb.so is libdfb.so.MAJOR. */
+#define DFB_VERSION "0.2.0"
+#define DFB_VERSION_MAJOR 0
+#define DFB_VERSION_MINOR 2
+#define DFB_VERSION_PATCH 0
+
 #ifdef __cplusplus
 extern "C" {
 #endif
 
+/* ---- refusals ---- */
+
+enum dfb_refusal_number {
+    DFB_REFUSAL_UNKNOWN_COMMAND = 1,       /* the command ID is outside 0x30 to 0x36 */
+    DFB_REFUSAL_WRONG_LENGTH = 2,          /* a list has a wrong length, an output is too small, or a place or number does not fit */
+    DFB_REFUSAL_UNSOUND_STATE = 3,         /* the state is not one that the board or the slots can have left */
+    DFB_REFUSAL_UNKNOWN_APID = 4,          /* the APID is none of the seven, or 0x4E where a waveform's is wanted */
+    DFB_REFUSAL_INCOMPLETE_SET = 5,        /* the set is not complete */
+    DFB_REFUSAL_NO_PROCESSOR_ENABLED = 6,  /* a SPEC word with no processor enabled */
+    DFB_REFUSAL_ILLEGAL_BAND_CODE = 7,     /* the band code is not legal */
+    DFB_REFUSAL_SUM_CODE_OVERFLOW = 8,     /* the sum code's value is 2^64 or more */
+    DFB_REFUSAL_UNKNOWN_RECORD_KIND = 9,   /* the record kind is none of 1 to 4 */
+    DFB_REFUSAL_TRUNCATED_BODY = 10,       /* the log ends within a record */
+    DFB_REFUSAL_INPUT_TOO_LONG = 11,       /* the log is over 65,536 bytes */
+    DFB_REFUSAL_OUT_OF_RANGE = 12,         /* a bin setting, band, FFT bin or NCAD choice is out of range */
+    DFB_REFUSAL_MEAN_OVERFLOW = 13,        /* a band mean is over 2^32 - 1 */
+    DFB_REFUSAL_TURNED_AWAY = 25,          /* no slot is free and no held slot has a smaller criterion */
+    DFB_REFUSAL_NOTHING_TO_SEND = 26,      /* nothing is held to send, or no criterion is above 0 */
+    DFB_REFUSAL_ALREADY_SENDING = 27,      /* a slot is already sending */
+    DFB_REFUSAL_NONE_SENDING = 28,         /* no slot is sending */
+    DFB_REFUSAL_ZERO_LIMIT = 29            /* the limit is 0 blocks */
+};
+
+/* The meaning of a refusal, as above; NULL for any other number. */
+static inline const char *dfb_meaning(unsigned refusal)
+{
+    switch (refusal) {
+    case DFB_REFUSAL_UNKNOWN_COMMAND: return "the command ID is outside 0x30 to 0x36";
+    case DFB_REFUSAL_WRONG_LENGTH: return "a list has a wrong length, an output is too small, or a place or number does not fit";
+    case DFB_REFUSAL_UNSOUND_STATE: return "the state is not one that the board or the slots can have left";
+    case DFB_REFUSAL_UNKNOWN_APID: return "the APID is none of the seven, or 0x4E where a waveform's is wanted";
+    case DFB_REFUSAL_INCOMPLETE_SET: return "the set is not complete";
+    case DFB_REFUSAL_NO_PROCESSOR_ENABLED: return "a SPEC word with no processor enabled";
+    case DFB_REFUSAL_ILLEGAL_BAND_CODE: return "the band code is not legal";
+    case DFB_REFUSAL_SUM_CODE_OVERFLOW: return "the sum code's value is 2^64 or more";
+    case DFB_REFUSAL_UNKNOWN_RECORD_KIND: return "the record kind is none of 1 to 4";
+    case DFB_REFUSAL_TRUNCATED_BODY: return "the log ends within a record";
+    case DFB_REFUSAL_INPUT_TOO_LONG: return "the log is over 65,536 bytes";
+    case DFB_REFUSAL_OUT_OF_RANGE: return "a bin setting, band, FFT bin or NCAD choice is out of range";
+    case DFB_REFUSAL_MEAN_OVERFLOW: return "a band mean is over 2^32 - 1";
+    case DFB_REFUSAL_TURNED_AWAY: return "no slot is free and no held slot has a smaller criterion";
+    case DFB_REFUSAL_NOTHING_TO_SEND: return "nothing is held to send, or no criterion is above 0";
+    case DFB_REFUSAL_ALREADY_SENDING: return "a slot is already sending";
+    case DFB_REFUSAL_NONE_SENDING: return "no slot is sending";
+    case DFB_REFUSAL_ZERO_LIMIT: return "the limit is 0 blocks";
+    default: return NULL;
+    }
+}
+
+/* dfb_refusal(answer): the number of the refusal that an answer is, or 0 where the call was accepted. Pass the call itself, or a variable of
+ * the type that the function answers: the type says how refusals are numbered, and an answer kept in a wider or narrower variable is taken
+ * for another's. An accepted answer is the value itself, unless a function below takes it apart. dfb_compress_band and dfb_compress_sum
+ * never refuse; do not pass their answers. */
+#define dfb_refusal(answer)                                                                       \
+    ((void)sizeof(char[sizeof(answer) == 2 || sizeof(answer) == 4 || sizeof(answer) == 8 ? 1 : -1]), \
+     sizeof(answer) == 2 ? dfb_refusal_u16((uint16_t)(answer))                                    \
+     : sizeof(answer) == 4 ? dfb_refusal_u32((uint32_t)(answer))                                  \
+                           : dfb_refusal_u64((uint64_t)(answer)))
+
+/* A refusal is a base plus its number, which no accepted answer of that function equals: the base is 0x100 in 16-bit answers (above 8-bit
+ * values), 0x10000 in 32-bit answers (above 16-bit values) and 2^63 in 64-bit answers. Do not compare with a base by hand: reports and
+ * accepted offers are above 0x10000 too. */
+#define DFB_REFUSED_8 0x100u
+#define DFB_REFUSED_16 0x10000u
+#define DFB_REFUSED_63 0x8000000000000000u
+
+/* The same by the type of the answer: dfb_band_of, the functions that answer 32 bits, those that answer 64. */
+static inline unsigned dfb_refusal_u16(uint16_t answer)
+{
+    return answer < DFB_REFUSED_8 ? 0u : answer - DFB_REFUSED_8;
+}
+
+static inline unsigned dfb_refusal_u32(uint32_t answer)
+{
+    return (answer & 0x800F0000u) == DFB_REFUSED_16 ? (unsigned)(answer & 0xFFFFu) : 0u;
+}
+
+static inline unsigned dfb_refusal_u64(uint64_t answer)
+{
+    return answer < DFB_REFUSED_63 ? 0u : (unsigned)(answer & 0xFFu);
+}
+
+/* A refusal that has an offset is 2^63 + 256 * offset + its number: the offset. It is 0 in a refusal that has none, as are all of this
+ * version. */
+static inline uint64_t dfb_refusal_offset(uint64_t answer)
+{
+    return (answer & ~DFB_REFUSED_63) >> 8;
+}
+
+/* ---- the board ---- */
+
+/* A state is eight numbers: registers 0x30 to 0x36 and then the phase. Totals are 784 numbers. After reset all are 0: to reset the board,
+ * set them to 0. Keep both as the last call left them.
+ *
+ * The lengths that refusal 2 asks for: of the state, the totals and a tick's powers exactly, of its output at least. */
 #define DFB_STATE 8
 #define DFB_TOTALS 784
 #define DFB_POWERS 7168
 #define DFB_OUTPUT 1176
 
-/* The base of refusals: a refusal is the base + its number, 1 to 99. An answer below the base is a value. Of dfb_tick test DFB_REPORTED
- * first: a report is above the refusals. Of dfb_burst_offer look at bits 19:0. */
-#define DFB_REFUSED_8 0x100u
-#define DFB_REFUSED_16 0x10000u
-#define DFB_REFUSED_63 0x8000000000000000u
+/* Sends a command to the register of an ID, 0x30 to 0x36: the value stored, or refusal 2, 3, 1. An accepted command sets the phase and all
+ * totals to 0. Fields of the information: source 4:0, enable 5; in 0x30 also bins 7:6, NAVG 11:8 (N = 2^NAVG spectra are averaged) and NCAD
+ * 15:12 (a period has C = 2^NCAD ticks). */
+uint32_t dfb_command(uint16_t *state, size_t state_len, uint64_t *totals, size_t totals_len, uint8_t id, uint16_t information);
 
-/* Answers of dfb_tick; a report is DFB_REPORTED + its number of words. */
+/* Reads a register: its value, or refusal 2 for the state's length, 3 for its registers, 1. */
+uint32_t dfb_read(const uint16_t *state, size_t state_len, uint8_t id);
+
+/* Accepted answers of dfb_tick: no processor is enabled or N is above C; the powers were added; the report of this period was made before.
+ * A report is DFB_REPORTED plus its number of words: use dfb_report_words. */
 #define DFB_IDLE 0u
 #define DFB_COLLECTED 1u
 #define DFB_WAITING 2u
 #define DFB_REPORTED 0x20000u
 
-/* The value stored, or 0x10000 + refusal (2, 3, 1). */
-uint32_t dfb_command(uint16_t *state, size_t state_len, uint64_t *totals, size_t totals_len, uint8_t id, uint16_t information);
-
-/* The register's value, or 0x10000 + refusal (2 for the state's length, 3, 1). */
-uint32_t dfb_read(const uint16_t *state, size_t state_len, uint8_t id);
-
-/* One tick with 7 rows of 1,024 powers. Refusals 2, 3, 13. A report writes 3 bytes for each word from the start of out. */
+/* One tick with 7 rows of 1,024 powers, or refusal 2, 3, 13. A report writes 3 bytes for each word from the start of out. 13 never comes:
+ * it is proved that no mean from a sound state is that large. */
 uint32_t dfb_tick(uint16_t *state, size_t state_len, uint64_t *totals, size_t totals_len, const uint32_t *powers, size_t powers_len,
                   uint8_t *out, size_t out_len);
 
-/* One waveform set: the bytes written, or 0x10000 + refusal (4, 2). */
+/* The words of the report that an answer of dfb_tick is; 0 where it is no report. */
+static inline unsigned dfb_report_words(uint32_t answer)
+{
+    return answer < DFB_REPORTED ? 0u : (unsigned)(answer - DFB_REPORTED);
+}
+
+/* ---- words and sets ---- */
+
+enum dfb_apid {
+    DFB_APID_E_SVY = 0x43,
+    DFB_APID_V_SVY = 0x44,
+    DFB_APID_MAG_SVY = 0x45,
+    DFB_APID_E_B1 = 0x46,
+    DFB_APID_V_B1 = 0x47,
+    DFB_APID_SCM_B1 = 0x48,
+    DFB_APID_SPEC = 0x4E
+};
+
+/* The words of a waveform set; a word is one sample, and three bytes. */
+enum dfb_words {
+    DFB_WORDS_E_SVY = 3,
+    DFB_WORDS_V_SVY = 7,
+    DFB_WORDS_MAG_SVY = 3,
+    DFB_WORDS_E_B1 = 3,
+    DFB_WORDS_V_B1 = 6,
+    DFB_WORDS_SCM_B1 = 3
+};
+
+/* No waveform set has more words. */
+#define DFB_MOST_WORDS 7
+
+/* The words of a waveform set by its APID; 0 for any other. */
+static inline size_t dfb_set_words(uint8_t apid)
+{
+    switch (apid) {
+    case DFB_APID_E_SVY: return DFB_WORDS_E_SVY;
+    case DFB_APID_V_SVY: return DFB_WORDS_V_SVY;
+    case DFB_APID_MAG_SVY: return DFB_WORDS_MAG_SVY;
+    case DFB_APID_E_B1: return DFB_WORDS_E_B1;
+    case DFB_APID_V_B1: return DFB_WORDS_V_B1;
+    case DFB_APID_SCM_B1: return DFB_WORDS_SCM_B1;
+    default: return 0;
+    }
+}
+
+/* Packs one waveform set: the bytes written, 3 for each word, or refusal 4, then 2 where samples are not the set's number of words or out
+ * is under 3 bytes for each. */
 uint32_t dfb_pack(uint8_t apid, const int16_t *samples, size_t samples_len, uint8_t *out, size_t out_len);
 
-/* The samples of one waveform set: how many were written, or 0x10000 + refusal (4, 2, 5). */
+/* Unpacks one waveform set: the samples written, or refusal 4, 2 where bytes are not 3 for each word or samples are fewer than the words,
+ * then 5 where another APID stands among the words. */
 uint32_t dfb_unpack(uint8_t apid, const uint8_t *bytes, size_t bytes_len, int16_t *samples, size_t samples_len);
 
-/* Appends one record behind the bytes used: the new number of bytes used, or 2^63 + refusal. kind is 1 to 4 as in the log, and 9 is the
- * refusal of any other; a is the ID or the APID; b is the 16 bits or the seconds. Then 1 or 4 by the record, then 2: used past the end,
- * no room for the record, or, for a command or a word, a b of more than 16 bits. */
+/* ---- the log ---- */
+
+enum dfb_kind {
+    DFB_KIND_END = 0, /* only from dfb_read_record */
+    DFB_KIND_COMMAND = 1,
+    DFB_KIND_WORD = 2,
+    DFB_KIND_SECOND_MARK = 3,
+    DFB_KIND_TICK = 4
+};
+
+/* The bytes of a record in the log; 0 for any other kind. */
+static inline size_t dfb_record_bytes(uint8_t kind)
+{
+    switch (kind) {
+    case DFB_KIND_COMMAND: return 4;
+    case DFB_KIND_WORD: return 4;
+    case DFB_KIND_SECOND_MARK: return 5;
+    case DFB_KIND_TICK: return 1;
+    default: return 0;
+    }
+}
+
+/* Appends one record behind the bytes used: the new number of bytes used, or a refusal. kind is 1 to 4, and 9 is the refusal of any other;
+ * a is the ID of a command or the APID of a word, b its 16 bits, or the seconds of a mark; what a record does not have is not looked at.
+ * Then 1 or 4 by a, then 2: used past the end, no room for the record, or, for a command or a word, a b of more than 16 bits. */
 uint64_t dfb_append(uint8_t *log, size_t log_len, size_t used, uint8_t kind, uint8_t a, uint32_t b);
 
-/* The listing of a log: the bytes of text at the start of out, or 2^63 + 2 where out is under 6 * log_len + 64 bytes (64 where the log
- * is over 65,536 bytes). */
+/* A record as numbers: kind, a and b. */
+#define DFB_RECORD 3
+
+/* Reads the record at a place of the log: the place after it, with kind, a and b as in dfb_append in numbers[0..3]; what the record does
+ * not have is 0. At the log's end the answer is the same place and all three are 0 (DFB_KIND_END). Refusals: 2 for a place past the log,
+ * 9, 10, 1 or 4, then 2 where numbers_len is under 3. */
+uint64_t dfb_read_record(const uint8_t *log, size_t log_len, size_t at, uint32_t *numbers, size_t numbers_len);
+
+/* A longer log is listed as refusal 11 and no more. */
+#define DFB_MOST_LISTED 65536
+
+/* The bytes that the listing of a log of this length needs at most, and that dfb_listing asks for. */
+static inline size_t dfb_listing_room(size_t log_len)
+{
+    return log_len > DFB_MOST_LISTED ? 64 : 6 * log_len + 64;
+}
+
+/* Lists a log as the program setlist does: the bytes of text at the start of out, or refusal 2 where out is under
+ * dfb_listing_room(log_len). The text is ASCII and does not end in 0. */
 uint64_t dfb_listing(const uint8_t *log, size_t log_len, uint8_t *out, size_t out_len);
 
-/* The band of an FFT bin, or 0x100 + 12. */
+/* ---- bands and codes ---- */
+
+/* The bands of a bin setting: 36, 64, 112 for 0, 1, 2; 0 for any other. A SPEC set has half as many words for each enabled processor. */
+static inline size_t dfb_band_count(uint8_t setting)
+{
+    switch (setting) {
+    case 0: return 36;
+    case 1: return 64;
+    case 2: return 112;
+    default: return 0;
+    }
+}
+
+/* The band of an FFT bin, or refusal 12. A 16-bit answer: dfb_refusal_u16. */
 uint16_t dfb_band_of(uint8_t setting, uint16_t bin);
 
-/* The band code of a value; the value of a band code, or 2^63 + 7. */
+/* Low edge, centre and width of a band in hertz, exactly, in three[0..3]: 0, or refusal 12, then 2 where three_len is under 3. */
+uint32_t dfb_describe_band(uint8_t setting, uint8_t band, float *three, size_t three_len);
+
+/* Accepted answers of dfb_cadence_of. */
+#define DFB_RATE 0u
+#define DFB_PERIOD 1u
+
+/* The cadence of an NCAD choice, exactly, in value[0]: DFB_RATE and a rate per second, or DFB_PERIOD and a period in seconds; or refusal
+ * 12 for a choice over 10, then 2 where value_len is 0. */
+uint32_t dfb_cadence_of(uint8_t choice, float *value, size_t value_len);
+
+/* The band code of a value; the value of a band code, or refusal 7. */
 uint8_t dfb_compress_band(uint32_t value);
 uint64_t dfb_expand_band(uint8_t code);
 
-/* The sum code of a value; 0 with the value of a sum code in value[0], or 0x10000 + refusal (8, then 2 where value_len is 0). */
+/* The sum code of a value; 0 with the value of a sum code in value[0], or refusal 8, then 2 where value_len is 0. */
 uint16_t dfb_compress_sum(uint64_t value);
 uint32_t dfb_expand_sum(uint16_t code, uint64_t *value, size_t value_len);
 
-/* 0 with low edge, centre and width of a band in hertz in three[0..3], or 0x10000 + refusal (12, then 2 where three_len is under 3). */
-uint32_t dfb_describe_band(uint8_t setting, uint8_t band, float *three, size_t three_len);
+/* ---- bursts ---- */
 
-/* Burst slots: status[i] is 0 for free, 1 for held, 2 for sending, and criteria[i] the criterion of a held slot. The criterion of a free or
- * sending slot is ignored, and an accepted call leaves it 0; a refusal changes nothing. Refusals: 2 for lists of different lengths, 3 for
- * more than 32 slots, a status over 2 or two sending, then those named below.
- * An offer answers the slot that takes the block in bits 15:0 and the number of slots looked at in bits 31:20, or 0x10000 + refusal; a block
- * that is turned away is 0x10000 + 25 + 2^20 * the number of slots looked at. */
+/* Up to 32 burst slots are two lists of one length: the status of each slot, and the criterion of each held one. The criterion of a free or
+ * sending slot is not looked at, and an accepted call leaves it 0. All free after reset. */
+#define DFB_MOST_SLOTS 32
+
+enum dfb_slot {
+    DFB_SLOT_FREE = 0,
+    DFB_SLOT_HELD = 1,
+    DFB_SLOT_SENDING = 2
+};
+
+/* Offers a block: the lowest free slot takes it, or, where none is free, the held slot with the smallest criterion (the lowest on a tie), if
+ * the block's own is greater. Refusals: 2 for lists of different lengths, 3 for more than 32 slots, a status over 2 or two sending, 25 where
+ * the block is turned away. dfb_offer_slot and dfb_offer_looked take the answer apart. */
 uint32_t dfb_burst_offer(uint8_t *status, size_t status_len, uint32_t *criteria, size_t criteria_len, uint32_t criterion);
 
-/* The slot of the block to send next, or 0x10000 + refusal (27, then 26). */
+/* The slot that took the block, of an accepted offer. */
+static inline unsigned dfb_offer_slot(uint32_t answer)
+{
+    return (unsigned)(answer & 0xFFFFu);
+}
+
+/* The number of slots that the offer looked at, of an accepted one and of one turned away (25): up to the first free one, or all. */
+static inline unsigned dfb_offer_looked(uint32_t answer)
+{
+    return (unsigned)(answer >> 20);
+}
+
+/* Chooses the block to send next, the held one with the greatest criterion (the lowest slot on a tie): its slot, which is sending from now
+ * on, or refusal 2 and 3 as above, 27, then 26. */
 uint32_t dfb_burst_choose(uint8_t *status, size_t status_len, uint32_t *criteria, size_t criteria_len);
 
-/* The slot that was sent and is free, or 0x10000 + refusal (28). */
+/* Ends the sending: the slot, which is free from now on, or refusal 2 and 3 as above, then 28. */
 uint32_t dfb_burst_finish(uint8_t *status, size_t status_len, uint32_t *criteria, size_t criteria_len);
 
-/* The interval of Burst 1 blocks to send next, from criteria with the oldest first: the first block in bits 15:0 and the last in bits 31:16,
- * or 2^63 + refusal (2 for over 16,000 criteria, then 29, then 26). */
+/* An index of more criteria is refused by 2. */
+#define DFB_MOST_BLOCKS 16000
+
+/* Chooses the interval of Burst 1 blocks to send next, from criteria with the oldest first. It starts at the greatest criterion (the oldest on
+ * a tie) and grows by its older and its newer neighbour in turn: a neighbour joins if its criterion plus the bonus is at least that of the
+ * start; a side that fails is closed; the interval has at most limit blocks. dfb_interval_first and dfb_interval_last take the answer apart;
+ * or refusal 2, 29 for a limit of 0, 26. */
 uint64_t dfb_choose_interval(const uint32_t *index, size_t index_len, uint32_t bonus, uint32_t limit);
+
+/* The first and the last block of an interval. */
+static inline unsigned dfb_interval_first(uint64_t answer)
+{
+    return (unsigned)(answer & 0xFFFFu);
+}
+
+static inline unsigned dfb_interval_last(uint64_t answer)
+{
+    return (unsigned)(answer >> 16 & 0xFFFFu);
+}
 
 #ifdef __cplusplus
 }

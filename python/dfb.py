@@ -1,20 +1,24 @@
 """The stand-in for the Digital Fields Board, for scripts: a thin module over the proved library libdfb.so (include/dfb.h).
 
 Each function calls the C function of its name. A refusal raises Refused with its number and changes nothing. A number that does not fit
-its C type raises OverflowError. libdfb.so is looked for in the folder DFB_LIB, or beside this file, or in dist/.
+its C type raises OverflowError. libdfb.so is looked for in the folder DFB_LIB, or beside this file, in dist/ of the repository, or in lib/
+of an installation.
 """
 import array
 import ctypes
 import os
 
+__version__ = "0.2.0"
+
 STATE, TOTALS, POWERS, OUTPUT = 8, 784, 7168, 1176
-COMMAND, WORD, SECOND_MARK, TICK = 1, 2, 3, 4
+RECORD, MOST_WORDS = 3, 7
+END, COMMAND, WORD, SECOND_MARK, TICK = 0, 1, 2, 3, 4
 FREE, HELD, SENDING = 0, 1, 2
 
-CAUSES = {
+MEANINGS = {
     1: "the command ID is outside 0x30 to 0x36",
-    2: "a list has a wrong length, or an output is too small",
-    3: "the state is not one that the board can have left",
+    2: "a list has a wrong length, an output is too small, or a place or number does not fit",
+    3: "the state is not one that the board or the slots can have left",
     4: "the APID is none of the seven, or 0x4E where a waveform's is wanted",
     5: "the set is not complete",
     6: "a SPEC word with no processor enabled",
@@ -23,10 +27,10 @@ CAUSES = {
     9: "the record kind is none of 1 to 4",
     10: "the log ends within a record",
     11: "the log is over 65,536 bytes",
-    12: "a bin setting, band or FFT bin is out of range",
+    12: "a bin setting, band, FFT bin or NCAD choice is out of range",
     13: "a band mean is over 2^32 - 1",
     25: "no slot is free and no held slot has a smaller criterion",
-    26: "nothing is held to send",
+    26: "nothing is held to send, or no criterion is above 0",
     27: "a slot is already sending",
     28: "no slot is sending",
     29: "the limit is 0 blocks",
@@ -37,13 +41,15 @@ class Refused(Exception):
     """A refusal; `number` is its number in the rules."""
 
     def __init__(self, number):
-        super().__init__("refusal %d: %s" % (number, CAUSES[number]))
+        super().__init__("refusal %d: %s" % (number, MEANINGS[number]))
         self.number = number
 
 
 def _load():
     here = os.path.dirname(os.path.abspath(__file__))
-    folders = [os.environ["DFB_LIB"]] if "DFB_LIB" in os.environ else [here, os.path.join(here, "..", "dist")]
+    folders = [here, os.path.join(here, "..", "dist"), os.path.join(here, "..", "..", "lib")]
+    if "DFB_LIB" in os.environ:
+        folders = [os.environ["DFB_LIB"]]
     for folder in folders:
         path = os.path.join(folder, "libdfb.so")
         if os.path.exists(path):
@@ -66,6 +72,7 @@ for _name, _answer, _arguments in (
     ("pack", U32, [U8] + _list(ctypes.c_int16) + _list(U8)),
     ("unpack", U32, [U8] + _list(U8) + _list(ctypes.c_int16)),
     ("append", U64, _list(U8) + [SIZE, U8, U8, U32]),
+    ("read_record", U64, _list(U8) + [SIZE] + _list(U32)),
     ("listing", U64, _list(U8) + _list(U8)),
     ("band_of", U16, [U8, U16]),
     ("compress_band", U8, [U32]),
@@ -73,6 +80,7 @@ for _name, _answer, _arguments in (
     ("compress_sum", U16, [U64]),
     ("expand_sum", U32, [U16] + _list(U64)),
     ("describe_band", U32, [U8, U8] + _list(ctypes.c_float)),
+    ("cadence_of", U32, [U8] + _list(ctypes.c_float)),
     ("burst_offer", U32, _list(U8) + _list(U32) + [U32]),
     ("burst_choose", U32, _list(U8) + _list(U32)),
     ("burst_finish", U32, _list(U8) + _list(U32)),
@@ -139,13 +147,13 @@ class Board:
 
 def pack(apid, samples):
     """The bytes of one waveform set."""
-    samples, out = _numbers("h", ctypes.c_int16, samples), (U8 * 21)()
+    samples, out = _numbers("h", ctypes.c_int16, samples), (U8 * (3 * MOST_WORDS))()
     return bytes(out[: _below_16(_library.dfb_pack(_number(apid, 8), samples, len(samples), out, len(out)))])
 
 
 def unpack(apid, data):
     """The samples of one waveform set."""
-    data, samples = _numbers("B", U8, data), (ctypes.c_int16 * 7)()
+    data, samples = _numbers("B", U8, data), (ctypes.c_int16 * MOST_WORDS)()
     return samples[: _below_16(_library.dfb_unpack(_number(apid, 8), data, len(data), samples, len(samples)))]
 
 
@@ -157,6 +165,27 @@ def append(log, used, kind, a=0, b=0):
     answer = _library.dfb_append(buffer, len(log), *numbers)
     del buffer  # a refusal's traceback would keep it, and the log's length fixed
     return _below_63(answer)
+
+
+def _record_at(log, at):
+    record = (U32 * RECORD)()
+    following = _below_63(_library.dfb_read_record(log, len(log), _number(at, 64), record, RECORD))
+    return (following, *record)
+
+
+def read_record(log, at):
+    """The record at a place of a log: the place after it, its kind, and a and b as in append. At the end the place stays, and kind is END."""
+    return _record_at(_numbers("B", U8, log), at)
+
+
+def records(log):
+    """The records of a log, one after the other: the place, kind, a and b of each. Raises Refused at a record that is refused."""
+    log, at = _numbers("B", U8, log), 0
+    following, *record = _record_at(log, at)
+    while record[0] != END:
+        yield (at, *record)
+        at = following
+        following, *record = _record_at(log, at)
 
 
 def listing(log):
@@ -198,6 +227,13 @@ def describe_band(setting, band):
     three = (ctypes.c_float * 3)()
     _below_16(_library.dfb_describe_band(_number(setting, 8), _number(band, 8), three, 3))
     return tuple(three)
+
+
+def cadence_of(choice):
+    """The cadence of an NCAD choice: ("rate", so many per second) or ("period", so many seconds)."""
+    value = (ctypes.c_float * 1)()
+    kind = _below_16(_library.dfb_cadence_of(_number(choice, 8), value, 1))
+    return ("rate", "period")[kind], value[0]
 
 
 class BurstSlots:

@@ -1,4 +1,4 @@
-"""Tests of what tools/dist built into dist/: the program, the C header with both libraries, and the Python module."""
+"""Tests of what tools/dist built: the files of dist/, the program, the libraries, the README's examples, and an installation."""
 import os
 import re
 import shutil
@@ -7,201 +7,213 @@ import sys
 import tempfile
 import unittest
 
-TOP = os.path.dirname(os.path.dirname(os.path.abspath(__file__)))
-DIST = os.path.join(TOP, "dist")
-os.environ.pop("DFB_LIB", None)
-sys.path.insert(0, DIST)
+from c_program import C99, CPP17, DIST, TOP, build, run
 
-import dfb  # noqa: E402
-
-# Two spectra with powers 8 and 11 in the first bin, and the listing of 01's whole case.
-C_PROGRAM = r"""
-#include <stdio.h>
-#include "dfb.h"
-
-static uint16_t state[DFB_STATE];
-static uint64_t totals[DFB_TOTALS];
-static uint32_t powers[DFB_POWERS];
-static uint8_t out[DFB_OUTPUT];
-
-int main(void)
-{
-    static const uint8_t log[] = {1, 0x30, 0x00, 0xE3, 2, 0x43, 0x00, 0x01, 2, 0x43, 0xFF, 0xFF, 2, 0x43, 0x80, 0x00, 3, 0, 0, 0, 7, 4};
-    uint8_t text[6 * sizeof log + 64];
-    uint32_t answer = dfb_command(state, DFB_STATE, totals, DFB_TOTALS, 0x30, 0x1120);
-    printf("%X\n", (unsigned)answer);
-    powers[0] = 8;
-    answer = dfb_tick(state, DFB_STATE, totals, DFB_TOTALS, powers, DFB_POWERS, out, DFB_OUTPUT);
-    printf("%d\n", answer == DFB_COLLECTED);
-    powers[0] = 11;
-    answer = dfb_tick(state, DFB_STATE, totals, DFB_TOTALS, powers, DFB_POWERS, out, DFB_OUTPUT);
-    printf("%u %02X %02X %02X\n", (unsigned)(answer - DFB_REPORTED), out[0], out[1], out[2]);
-    printf("%d\n", dfb_read(state, DFB_STATE, 0x37) == DFB_REFUSED_16 + 1);
-    fwrite(text, 1, (size_t)dfb_listing(log, sizeof log, text, sizeof text), stdout);
-    return 0;
+# What stands as it is in the repository: its name in dist/, and its place there and in an installation.
+COPIES = {
+    "dfb.h": ("include", "include"),
+    "dfb.py": ("python", "share/dfb"),
+    "plot": ("tools", "share/dfb"),
+    "HANDBOOK.md": ("docs", "share/doc/dfb"),
+    "AUDIT.md": ("docs", "share/doc/dfb"),
+    "LICENSE": ("", "share/doc/dfb"),
 }
-"""
-C_OUTPUT = "1120\n1\n18 4E 00 0C\n1\nDFB LOG 1\nC 30 0063\nW 43 1 -1 -32768\nS 7\nT\nEND 6\n"
-
-EXAMPLE = """\
-stored 0x1120
-reported 18 words
-band 0 starts at 0 Hz, has its centre at 4 Hz and is 8 Hz wide
-DFB LOG 1
-C 30 1120
-T
-T
-P 1 00 36%s
-END 21
-refusal 1: the command ID is outside 0x30 to 0x36
-""" % (36 * " 8")
+for _name in ("day-start", "bursts", "damaged"):
+    COPIES.update({"samples/%s.%s" % (_name, kind): ("", "share/doc/dfb") for kind in ("log", "txt")})
 
 
-def readme_example(language):
-    """The README's example under the line that starts with the language and ends in a colon."""
-    with open(os.path.join(TOP, "README.md"), encoding="utf8") as file:
-        block = re.search(r"^%s\b.*:\n\n((?:    .*\n)+)" % language, file.read(), re.MULTILINE).group(1)
+def read(*path):
+    with open(os.path.join(TOP, *path), encoding="utf8") as file:
+        return file.read()
+
+
+def version():
+    return re.search(r'#define DFB_VERSION "(.*)"', read("include", "dfb.h")).group(1)
+
+
+def soname():
+    return "libdfb.so." + version().split(".")[0]
+
+
+def files_below(folder):
+    files = [os.path.relpath(os.path.join(place, name), folder) for place, _, names in os.walk(folder) for name in names]
+    return sorted(name for name in files if "__pycache__" not in name)
+
+
+def output(*command, **options):
+    return subprocess.run(command, capture_output=True, check=True, encoding="utf8", **options).stdout
+
+
+def example(under, *path):
+    """A document's example under the line that starts so and ends in a colon."""
+    block = re.search(r"^%s\b.*:\n\n((?:    .*\n)+)" % under, read(*path), re.MULTILINE).group(1)
     return re.sub("^    ", "", block, flags=re.MULTILINE)
 
 
-class Dist(unittest.TestCase):
+class Tools(unittest.TestCase):
+    def need(self, *commands):
+        for command in commands:
+            if shutil.which(command) is None:
+                self.skipTest("%s is not there" % command)
+
+
+class Dist(Tools):
     def test_files(self):
-        self.assertEqual(sorted(set(os.listdir(DIST)) - {"__pycache__"}), ["dfb.h", "dfb.py", "libdfb.a", "libdfb.so", "setlist"])
+        self.assertEqual(files_below(DIST), sorted(["libdfb.a", "libdfb.so", soname(), "dfb.pc", "setlist", *COPIES]))
+        for name, (folder, _) in COPIES.items():
+            with open(os.path.join(DIST, name), "rb") as copy, open(os.path.join(TOP, folder, name), "rb") as original:
+                self.assertEqual(copy.read(), original.read(), name)
 
     def test_program(self):
         done = subprocess.run([os.path.join(DIST, "setlist")], input=b"\x04", capture_output=True)
         self.assertEqual(done.stdout, b"DFB LOG 1\nT\nEND 1\n")
 
-    def compile_and_run(self, compiler, options, library, text=C_PROGRAM, output=C_OUTPUT):
-        if shutil.which(compiler) is None:
-            self.skipTest("no " + compiler)
+    def compile_and_run(self, compiler, options, text, expected):
+        self.need(compiler)
         with tempfile.TemporaryDirectory() as folder:
             source, program = os.path.join(folder, "program.c"), os.path.join(folder, "program")
-            with open(source, "w") as file:
+            with open(source, "w", encoding="utf8") as file:
                 file.write(text)
-            strict = ["-Wall", "-Wextra", "-Wpedantic", "-Werror", "-I", DIST]
-            subprocess.run([compiler, *options, *strict, source, "-x", "none", os.path.join(DIST, library), "-o", program], check=True)
-            done = subprocess.run([program], capture_output=True, env={"LD_LIBRARY_PATH": DIST}, check=True)
-            self.assertEqual(done.stdout.decode(), output)
+            built = build(compiler, options, source, program)
+            self.assertEqual((built.returncode, built.stderr), (0, ""))
+            self.assertEqual(run(program).stdout, expected)
 
-    def test_c_with_archive(self):
-        self.compile_and_run("cc", ["-std=c99"], "libdfb.a")
+    def run_as_written(self, language, name, *path):
+        """Runs a document's example by the command beside it, in a folder that has dist/; what the program then prints."""
+        command = re.search(r"^%s \(`(.*)`\):$" % language, read(*path), re.MULTILINE).group(1)
+        with tempfile.TemporaryDirectory() as folder:
+            os.symlink(DIST, os.path.join(folder, "dist"))
+            with open(os.path.join(folder, name), "w", encoding="utf8") as file:
+                file.write(example(language, *path))
+            environment = {**os.environ, "PKG_CONFIG_PATH": DIST, "LD_LIBRARY_PATH": DIST}
+            printed = output("bash", "-c", command, cwd=folder, env=environment)
+            program = os.path.join(folder, os.path.splitext(name)[0])
+            return output(program, env=environment) if os.path.exists(program) else printed
 
-    def test_c_with_shared_library(self):
-        self.compile_and_run("cc", ["-std=c99"], "libdfb.so")
+    def test_readme_c(self):
+        self.need("cc")
+        self.assertEqual(self.run_as_written("C", "example.c", "README.md"), "18 words\n")
+        self.compile_and_run("cc", C99, example("C", "README.md"), "18 words\n")
 
-    def test_cpp_with_archive(self):
-        self.compile_and_run("c++", ["-std=c++11", "-x", "c++"], "libdfb.a")
+    def test_readme_cpp(self):
+        self.compile_and_run("c++", CPP17, example("C", "README.md"), "18 words\n")
 
-    def test_readme(self):
-        self.compile_and_run("cc", ["-std=c99"], "libdfb.a", readme_example("C"), "18 words\n")
-        done = subprocess.run([sys.executable, "-c", readme_example("Python")], capture_output=True, cwd=DIST, check=True)
-        self.assertEqual(done.stdout.decode(), repr(b"N\0\0" * 18) + "\n")
+    def test_readme_python(self):
+        self.assertEqual(self.run_as_written("Python", "example.py", "README.md"), repr(b"N\0\0" * 18) + "\n")
 
-    def test_shared_library_exports_the_header(self):
-        if shutil.which("nm") is None:
-            self.skipTest("no nm")
-        symbols = subprocess.run(["nm", "-D", "--defined-only", os.path.join(DIST, "libdfb.so")], capture_output=True, check=True)
-        exported = {line.split()[2] for line in symbols.stdout.decode().splitlines()}
-        names = (
-            "command read tick pack unpack append listing band_of compress_band expand_band compress_sum expand_sum describe_band "
-            "burst_offer burst_choose burst_finish choose_interval"
-        ).split()
-        self.assertEqual(exported, {"dfb_" + name for name in names})
+    def test_handbook(self):
+        self.need("cc", "pkg-config")
+        self.assertEqual(self.run_as_written("C", "walk.c", "docs", "HANDBOOK.md"), example("It prints", "docs", "HANDBOOK.md"))
+        self.compile_and_run("cc", C99, example("C", "docs", "HANDBOOK.md"), example("It prints", "docs", "HANDBOOK.md"))
+
+    def test_handbook_beside_the_header(self):
+        """What is to be tried can be tried in dist/."""
+        for command, last in re.findall(r"Try it: `([^`]*)` ends in `([^`]*)`", read("docs", "HANDBOOK.md")):
+            self.assertEqual(output("bash", "-c", command, cwd=DIST).splitlines()[-1], last)
+        with tempfile.TemporaryDirectory() as folder:
+            output("./plot", "samples/day-start.txt", folder, cwd=DIST)
+            self.assertIn("day-start-1.svg", os.listdir(folder))
+
+    # The header needs nothing before it, and nothing of it need be used.
+    ALONE = '#include "dfb.h"\n#include "dfb.h"\nint main(void) { return 0; }\n'
+
+    def test_header_alone_c(self):
+        self.compile_and_run("cc", C99, self.ALONE, "")
+
+    def test_header_alone_cpp(self):
+        self.compile_and_run("c++", CPP17, self.ALONE, "")
+        self.compile_and_run("c++", ["-std=c++11", "-x", "c++"], self.ALONE, "")
+
+    def test_refusal_of_an_8_bit_answer(self):
+        """dfb_refusal takes no answer of a type that no refusal has."""
+        self.need("cc")
+        with tempfile.TemporaryDirectory() as folder:
+            source = os.path.join(folder, "program.c")
+            with open(source, "w", encoding="utf8") as file:
+                file.write('#include "dfb.h"\nint main(void) { return (int)dfb_refusal(dfb_compress_band(7)); }\n')
+            self.assertNotEqual(build("cc", C99, source, os.path.join(folder, "program")).returncode, 0)
 
 
-class Python(unittest.TestCase):
-    def refused(self, number, function, *arguments):
-        with self.assertRaises(dfb.Refused) as caught:
-            function(*arguments)
-        self.assertEqual(caught.exception.number, number)
+class Libraries(Tools):
+    def test_exports(self):
+        self.need("nm")
+        declared = set(re.findall(r"^\w+ (dfb_\w+)\([^{()]*\);", read("include", "dfb.h"), re.MULTILINE))
+        symbols = output("nm", "-D", "--defined-only", os.path.join(DIST, "libdfb.so"))
+        self.assertEqual({line.split()[2] for line in symbols.splitlines()}, declared)
 
-    def test_example(self):
-        done = subprocess.run([sys.executable, os.path.join(DIST, "dfb.py")], capture_output=True, check=True)
-        self.assertEqual(done.stdout.decode(), EXAMPLE)
+    def test_no_state(self):
+        """No object of the archive has memory of its own that can be written."""
+        self.need("objdump")
+        sections = output("objdump", "-h", "-w", os.path.join(DIST, "libdfb.a"))
+        found = re.findall(r"^ +\d+ (\S+) +([0-9a-f]+) .*ALLOC(.*)$", sections, re.MULTILINE)
+        self.assertTrue(found)
+        self.assertEqual([name for name, size, flags in found if int(size, 16) != 0 and "READONLY" not in flags], [])
 
-    def test_board(self):
-        board = dfb.Board()
-        self.assertEqual(board.tick([0] * dfb.POWERS), "idle")
-        self.assertEqual(board.command(0x30, 0xFFFF), 0x6363)
-        self.assertEqual(board.read(0x30), 0x6363)
-        self.assertEqual(board.command(0x30, 0x1020), 0x1020)
-        self.assertEqual(board.tick([9] * dfb.POWERS), bytes([0x4E, 0x0C, 0x0C]) * 18)
-        self.assertEqual(board.tick([9] * dfb.POWERS), "waiting")
-        self.refused(2, board.tick, [0])
-        self.refused(1, board.read, 0x37)
-        board.state[7] = 9
-        self.refused(3, board.command, 0x30, 0)
-
-    def test_sets(self):
-        samples = [1, -1, -32768]
-        self.assertEqual(dfb.pack(0x43, samples), bytes.fromhex("430001 43FFFF 438000"))
-        self.assertEqual(dfb.unpack(0x43, dfb.pack(0x43, samples)), samples)
-        self.refused(4, dfb.pack, 0x4E, samples)
-        self.refused(2, dfb.pack, 0x44, samples)
-        self.refused(5, dfb.unpack, 0x43, bytes.fromhex("430001 44FFFF 438000"))
-
-    def test_log(self):
-        log = bytearray(5)
-        self.assertEqual(dfb.append(log, 0, dfb.TICK), 1)
-        self.assertEqual(dfb.append(log, 1, dfb.WORD, 0x43, 0xABCD), 5)
-        self.assertEqual(log, bytes.fromhex("04 0243ABCD"))
-        self.refused(2, dfb.append, log, 5, dfb.TICK)
-        self.refused(9, dfb.append, log, 0, 5)
-        log += b"\x04"
-        self.assertEqual(dfb.listing(log), "DFB LOG 1\nT\nBAD 5 5\n")
-        self.assertEqual(dfb.listing(b""), "DFB LOG 1\nEND 0\n")
-
-    def test_codes_and_bands(self):
-        self.assertEqual((dfb.compress_band(15), dfb.expand_band(0x0F)), (0x0F, 14))
-        self.assertEqual((dfb.compress_sum(2**64 - 1), dfb.expand_sum(0xFC01)), (0xDBFF, 2**63))
-        self.assertEqual((dfb.band_of(0, 512), dfb.describe_band(2, 111)), (32, (7936.0, 8064.0, 256.0)))
-        self.refused(7, dfb.expand_band, 0x08)
-        self.refused(8, dfb.expand_sum, 0xFC02)
-        self.refused(12, dfb.band_of, 3, 0)
-        self.refused(12, dfb.describe_band, 0, 36)
-
-    def test_bursts(self):
-        slots = dfb.BurstSlots(2)
-        self.refused(26, slots.choose)
-        self.refused(28, slots.finish)
-        self.assertEqual([slots.offer(criterion) for criterion in (5, 9, 7, 7)], [(0, 1), (1, 2), (0, 2), (None, 2)])
-        self.assertEqual((list(slots.status), list(slots.criteria)), ([dfb.HELD, dfb.HELD], [7, 9]))
-        self.assertEqual(slots.choose(), 1)
-        self.refused(27, slots.choose)
-        self.assertEqual((list(slots.status), list(slots.criteria)), ([dfb.HELD, dfb.SENDING], [7, 0]))
-        self.assertEqual((slots.finish(), list(slots.status)), (1, [dfb.HELD, dfb.FREE]))
-        slots.status[0] = 3
-        self.refused(3, slots.offer, 1)
-        self.refused(3, dfb.BurstSlots(33).choose)
-
-    def test_interval(self):
-        self.assertEqual(dfb.choose_interval([1, 5, 9, 9, 2], 4, 10), (1, 3))
-        self.assertEqual(dfb.choose_interval([1, 5, 9, 9, 2], 4, 2), (1, 2))
-        self.assertEqual(dfb.choose_interval([2**32 - 1] * 3, 2**32 - 1, 2**32 - 1), (0, 2))
-        self.refused(2, dfb.choose_interval, [1] * 16001, 0, 1)
-        self.refused(29, dfb.choose_interval, [1], 0, 0)
-        self.refused(26, dfb.choose_interval, [0, 0], 0, 1)
-
-    def test_numbers_that_do_not_fit(self):
-        board = dfb.Board()
-        for function, arguments in (
-            (board.command, (0x130, 0)),
-            (board.command, (0x30, 0x10000)),
-            (board.command, (0x30, -1)),
-            (board.tick, ([2**32] * dfb.POWERS,)),
-            (dfb.pack, (0x43, [0, 0, 32768])),
-            (dfb.unpack, (0x43, [256] * 9)),
-            (dfb.append, (bytearray(9), 0, 4, 0, 2**32)),
-            (dfb.compress_band, (2**32,)),
-            (dfb.compress_sum, (2**64,)),
-            (dfb.expand_sum, (0x10000,)),
-            (dfb.BurstSlots(1).offer, (2**32,)),
-            (dfb.choose_interval, ([2**32], 0, 1)),
-            (dfb.choose_interval, ([1], 0, 2**32)),
+    def test_dependencies(self):
+        """memcpy and memset of the C library, of the version that the header names or an older one."""
+        self.need("nm", "objdump")
+        undefined = re.findall(r"^ +U (\w+)", output("nm", "-u", os.path.join(DIST, "libdfb.a")), re.MULTILINE)
+        self.assertLessEqual(set(undefined), {"memcpy", "memmove", "memset"})
+        for pattern, path, name in (
+            (r"glibc (\d+)\.(\d+) or later", ("include", "dfb.h"), "libdfb.so"),
+            (r"needs glibc (\d+)\.(\d+) or later", ("README.md",), "libdfb.so"),
+            (r"`setlist` glibc (\d+)\.(\d+)", ("README.md",), "setlist"),
         ):
-            self.assertRaises(OverflowError, function, *arguments)
-        self.assertEqual(bytes(board.state), bytes(16))
+            versions = re.findall(r"GLIBC_(\d+)\.(\d+)", output("objdump", "-T", os.path.join(DIST, name)))
+            named = re.search(pattern, read(*path)).groups()
+            self.assertEqual(max(tuple(map(int, numbers)) for numbers in versions), tuple(map(int, named)))
+
+    def test_soname(self):
+        self.need("objdump")
+        self.assertIn(soname(), re.findall(r"SONAME +(\S+)", output("objdump", "-p", os.path.join(DIST, "libdfb.so"))))
+        self.assertEqual(os.readlink(os.path.join(DIST, "libdfb.so")), soname())
+
+
+class Installation(Tools):
+    """What pkg-config says is enough to build and run a program, from dist/ and from an installation."""
+
+    PROGRAM = '#include <dfb.h>\n#include <stdio.h>\nint main(void) { puts(DFB_VERSION); return (int)dfb_compress_band(7) - 7; }\n'
+
+    def build_by_pkg_config(self, folder, library):
+        """The flags go through a shell, as a user's do."""
+        environment = {**os.environ, "PKG_CONFIG_PATH": folder, "LD_LIBRARY_PATH": library}
+        self.assertEqual(output("pkg-config", "--modversion", "dfb", env=environment).strip(), version())
+        flags = output("pkg-config", "--cflags", "--libs", "dfb", env=environment).strip()
+        with tempfile.TemporaryDirectory() as work:
+            with open(os.path.join(work, "program.c"), "w", encoding="utf8") as file:
+                file.write(self.PROGRAM)
+            output("bash", "-c", "cc -std=c99 program.c %s -o program" % flags, cwd=work)
+            self.assertEqual(output(os.path.join(work, "program"), env=environment), version() + "\n")
+
+    def test_dist(self):
+        self.need("pkg-config", "cc")
+        self.build_by_pkg_config(DIST, DIST)
+
+    def test_prefix(self):
+        """An installation in a folder whose name has a space."""
+        self.need("rt", "ar", "cc")
+        with tempfile.TemporaryDirectory() as folder:
+            prefix = os.path.join(folder, "a prefix", "usr")
+            output(os.path.join(TOP, "tools", "dist"), prefix)
+            copies = [os.path.join(place, name) for name, (_, place) in COPIES.items()]
+            libraries = ["lib/libdfb.a", "lib/libdfb.so", "lib/" + soname()]
+            self.assertEqual(files_below(prefix), sorted(["bin/setlist", "lib/pkgconfig/dfb.pc", *libraries, *copies]))
+            for name, (_, place) in COPIES.items():
+                with open(os.path.join(prefix, place, name), "rb") as copy, open(os.path.join(DIST, name), "rb") as original:
+                    self.assertEqual(copy.read(), original.read(), name)
+            done = subprocess.run([os.path.join(prefix, "bin", "setlist")], input=b"", capture_output=True)
+            self.assertEqual(done.stdout, b"DFB LOG 1\nEND 0\n")
+            script = "import dfb; print(dfb.__version__, dfb._library._name)"
+            environment = {"PYTHONPATH": os.path.join(prefix, "share", "dfb"), "PYTHONDONTWRITEBYTECODE": "1"}
+            found, library = output(sys.executable, "-c", script, env=environment).strip().split(" ", 1)
+            self.assertEqual((found, os.path.realpath(library)), (version(), os.path.join(os.path.realpath(prefix), "lib", soname())))
+            self.need("pkg-config")
+            self.build_by_pkg_config(os.path.join(prefix, "lib", "pkgconfig"), os.path.join(prefix, "lib"))
+
+    def test_usage(self):
+        for arguments in (["--help"], ["one", "two"]):
+            done = subprocess.run([os.path.join(TOP, "tools", "dist"), *arguments], capture_output=True)
+            self.assertEqual((done.returncode, done.stdout), (2, b"usage: tools/dist [PREFIX]\n"))
 
 
 if __name__ == "__main__":

@@ -1,0 +1,681 @@
+/* Calls every function of dfb.h with every refusal of its row (but 13, which never comes), with outputs longer than needed and with empty
+ * lists, and takes every kind of answer apart by the header's inline functions. Expected numbers are from papers 01 and 02.
+ *
+ * C99 and C++17. Each list ends where its memory ends: the page behind it cannot be touched. */
+#define _DEFAULT_SOURCE
+#include "dfb.h"
+
+#include <pthread.h>
+#include <stdio.h>
+#include <stdlib.h>
+#include <string.h>
+#include <sys/mman.h>
+
+/* ---- lists ---- */
+
+enum { PAGE = 4096, MOST_LISTS = 16 };
+
+static struct list {
+    unsigned char *memory, *contents, *before;
+    size_t mapped, bytes;
+} lists[MOST_LISTS];
+static size_t list_count;
+
+/* A list of so many bytes, filled with a pattern. */
+static void *make_list(size_t bytes)
+{
+    size_t mapped = (bytes + PAGE - 1) / PAGE * PAGE;
+    void *memory = mmap(NULL, mapped + PAGE, PROT_READ | PROT_WRITE, MAP_PRIVATE | MAP_ANONYMOUS, -1, 0);
+    struct list *list = &lists[list_count++];
+    if (memory == MAP_FAILED || list_count == MOST_LISTS || mprotect((unsigned char *)memory + mapped, PAGE, PROT_NONE) != 0)
+        abort();
+    list->memory = (unsigned char *)memory;
+    list->mapped = mapped + PAGE;
+    list->bytes = bytes;
+    list->contents = list->memory + (mapped - bytes);
+    list->before = (unsigned char *)malloc(bytes + 1);
+    for (size_t i = 0; i < bytes; i++)
+        list->contents[i] = (unsigned char)(0xA5u ^ (7u * i));
+    return list->contents;
+}
+
+static void *zero_list(size_t bytes)
+{
+    return memset(make_list(bytes), 0, bytes);
+}
+
+static void drop_lists(void)
+{
+    while (list_count > 0) {
+        struct list *list = &lists[--list_count];
+        free(list->before);
+        munmap(list->memory, list->mapped);
+    }
+}
+
+static void remember(void)
+{
+    for (size_t i = 0; i < list_count; i++)
+        memcpy(lists[i].before, lists[i].contents, lists[i].bytes);
+}
+
+/* Every list is as remembered, but for the first so many bytes of one of them (NULL: of none). */
+static int is_unchanged_but(const void *changed, size_t bytes)
+{
+    for (size_t i = 0; i < list_count; i++) {
+        size_t from = lists[i].contents == changed ? bytes : 0;
+        if (memcmp(lists[i].before + from, lists[i].contents + from, lists[i].bytes - from) != 0)
+            return 0;
+    }
+    return 1;
+}
+
+/* ---- checks ---- */
+
+static unsigned faults;
+
+static void check(int line, int is_right, const char *what)
+{
+    if (is_right)
+        return;
+    faults++;
+    fprintf(stderr, "tests/interface.c:%d: %s\n", line, what);
+}
+
+#define CHECK(condition) check(__LINE__, (condition) != 0, #condition)
+
+/* A call is refused by a number, and no list changes. */
+#define REFUSED(type, bits, base, number, call)                          \
+    do {                                                                 \
+        remember();                                                      \
+        type answer_ = (call);                                           \
+        check(__LINE__, answer_ == (base) + (number), #call);            \
+        check(__LINE__, dfb_refusal_u##bits(answer_) == (number), #call); \
+        check(__LINE__, dfb_refusal(answer_) == (number), #call);        \
+        check(__LINE__, is_unchanged_but(NULL, 0), #call " changes");    \
+    } while (0)
+#define REFUSED_16(number, call) REFUSED(uint16_t, 16, 0x100u, number, call)
+#define REFUSED_32(number, call) REFUSED(uint32_t, 32, 0x10000u, number, call)
+#define REFUSED_64(number, call) REFUSED(uint64_t, 64, (uint64_t)1 << 63, number, call)
+
+/* A call is accepted with an answer, and changes at most the first so many bytes of one list. */
+#define ACCEPTED(type, bits, answer, changed, bytes, call)                  \
+    do {                                                                    \
+        remember();                                                         \
+        type answer_ = (call);                                              \
+        check(__LINE__, answer_ == (answer), #call);                        \
+        check(__LINE__, dfb_refusal_u##bits(answer_) == 0, #call " is refused"); \
+        check(__LINE__, dfb_refusal(answer_) == 0, #call " is refused");    \
+        check(__LINE__, is_unchanged_but(changed, bytes), #call " changes more"); \
+    } while (0)
+#define ACCEPTED_16(answer, call) ACCEPTED(uint16_t, 16, answer, NULL, 0, call)
+#define ACCEPTED_32(answer, changed, bytes, call) ACCEPTED(uint32_t, 32, answer, changed, bytes, call)
+#define ACCEPTED_64(answer, changed, bytes, call) ACCEPTED(uint64_t, 64, answer, changed, bytes, call)
+
+/* ---- the board ---- */
+
+static uint16_t *state;
+static uint64_t *totals;
+static uint32_t *powers;
+static uint8_t *out;
+
+/* A board after reset, powers of 0, and an output of so many bytes. */
+static void make_board(size_t out_len)
+{
+    state = (uint16_t *)zero_list(DFB_STATE * sizeof *state);
+    totals = (uint64_t *)zero_list(DFB_TOTALS * sizeof *totals);
+    powers = (uint32_t *)zero_list(DFB_POWERS * sizeof *powers);
+    out = (uint8_t *)make_list(out_len);
+}
+
+static uint32_t command(uint8_t id, uint16_t information)
+{
+    return dfb_command(state, DFB_STATE, totals, DFB_TOTALS, id, information);
+}
+
+static uint32_t tick(size_t out_len)
+{
+    return dfb_tick(state, DFB_STATE, totals, DFB_TOTALS, powers, DFB_POWERS, out, out_len);
+}
+
+static void test_command(void)
+{
+    make_board(DFB_OUTPUT);
+    ACCEPTED_32(0x6363u, state, 2, command(0x30, 0xFFFF));
+    ACCEPTED_32(0xA316u, state, 2, command(0x30, 0xAB16));
+    CHECK(state[0] == 0xA316);
+    ACCEPTED_32(0x0032u, state, 4, command(0x31, 0xFFFF));
+    CHECK(state[0] == 0xA316 && state[1] == 0x0032);
+    ACCEPTED_32(0x0000u, state, 14, command(0x36, 0x0000));
+
+    REFUSED_32(2u, dfb_command(state, DFB_STATE - 1, totals, DFB_TOTALS, 0x30, 0));
+    REFUSED_32(2u, dfb_command(state, DFB_STATE, totals, DFB_TOTALS - 1, 0x30, 0));
+    REFUSED_32(2u, dfb_command(NULL, 0, totals, DFB_TOTALS, 0x30, 0));
+    REFUSED_32(2u, dfb_command(state, DFB_STATE, NULL, 0, 0x30, 0));
+    REFUSED_32(1u, command(0x2F, 0));
+    REFUSED_32(1u, command(0x37, 0));
+    state[7] = 1024; /* C is 1024 */
+    REFUSED_32(3u, command(0x30, 0));
+    REFUSED_32(3u, command(0x37, 0));
+    REFUSED_32(2u, dfb_command(state, DFB_STATE, totals, DFB_TOTALS - 1, 0x37, 0));
+    state[7] = 0;
+    totals[783] = 1;
+    REFUSED_32(3u, command(0x30, 0));
+    totals[783] = 0;
+    state[6] = 0x0040;
+    REFUSED_32(3u, command(0x30, 0));
+}
+
+/* A state and totals that are one element too long. */
+static void test_long_lists(void)
+{
+    make_board(DFB_OUTPUT);
+    uint16_t *long_state = (uint16_t *)zero_list((DFB_STATE + 1) * sizeof *long_state);
+    uint64_t *long_totals = (uint64_t *)zero_list((DFB_TOTALS + 1) * sizeof *long_totals);
+    uint32_t *long_powers = (uint32_t *)zero_list((DFB_POWERS + 1) * sizeof *long_powers);
+    REFUSED_32(2u, dfb_command(long_state, DFB_STATE + 1, totals, DFB_TOTALS, 0x30, 0));
+    REFUSED_32(2u, dfb_command(state, DFB_STATE, long_totals, DFB_TOTALS + 1, 0x30, 0));
+    REFUSED_32(2u, dfb_read(long_state, DFB_STATE + 1, 0x30));
+    REFUSED_32(2u, dfb_tick(long_state, DFB_STATE + 1, totals, DFB_TOTALS, powers, DFB_POWERS, out, DFB_OUTPUT));
+    REFUSED_32(2u, dfb_tick(state, DFB_STATE, long_totals, DFB_TOTALS + 1, powers, DFB_POWERS, out, DFB_OUTPUT));
+    REFUSED_32(2u, dfb_tick(state, DFB_STATE, totals, DFB_TOTALS, long_powers, DFB_POWERS + 1, out, DFB_OUTPUT));
+}
+
+static void test_read(void)
+{
+    make_board(DFB_OUTPUT);
+    for (unsigned n = 0; n < 7; n++)
+        CHECK(command((uint8_t)(0x30 + n), (uint16_t)n) == n);
+    for (unsigned n = 0; n < 7; n++)
+        ACCEPTED_32(n, NULL, 0, dfb_read(state, DFB_STATE, (uint8_t)(0x30 + n)));
+    CHECK(command(0x30, 0x6363) == 0x6363);
+    ACCEPTED_32(0x6363u, NULL, 0, dfb_read(state, DFB_STATE, 0x30));
+    REFUSED_32(1u, dfb_read(state, DFB_STATE, 0x2F));
+    REFUSED_32(1u, dfb_read(state, DFB_STATE, 0x37));
+    REFUSED_32(2u, dfb_read(state, DFB_STATE - 1, 0x37));
+    REFUSED_32(2u, dfb_read(NULL, 0, 0x30));
+    state[7] = 9; /* a read looks at registers only */
+    ACCEPTED_32(0x6363u, NULL, 0, dfb_read(state, DFB_STATE, 0x30));
+    state[3] = 0x0017;
+    REFUSED_32(3u, dfb_read(state, DFB_STATE, 0x30));
+    REFUSED_32(3u, dfb_read(state, DFB_STATE, 0x37));
+}
+
+static void test_tick(void)
+{
+    make_board(DFB_OUTPUT + 5);
+    ACCEPTED_32(DFB_IDLE, NULL, 0, tick(DFB_OUTPUT + 5));
+
+    /* N = C = 2, powers 8 and 11 in bin 0: the total is 19, the code 0x0C */
+    CHECK(command(0x30, 0x1120) == 0x1120);
+    powers[0] = 8;
+    CHECK(tick(DFB_OUTPUT + 5) == DFB_COLLECTED);
+    CHECK(dfb_refusal_u32(DFB_COLLECTED) == 0 && dfb_report_words(DFB_COLLECTED) == 0);
+    CHECK(totals[0] == 8 && totals[1] == 0 && state[7] == 1);
+    powers[0] = 11;
+    remember();
+    uint32_t answer = tick(DFB_OUTPUT + 5);
+    CHECK(answer == DFB_REPORTED + 18);
+    CHECK(dfb_refusal_u32(answer) == 0 && dfb_report_words(answer) == 18);
+    CHECK(out[0] == 0x4E && out[1] == 0x00 && out[2] == 0x0C && out[3] == 0x4E && out[4] == 0 && out[5] == 0);
+    CHECK(memcmp(out + 54, lists[3].before + 54, DFB_OUTPUT + 5 - 54) == 0);
+    CHECK(totals[0] == 0 && state[7] == 0);
+
+    /* N = 1, C = 2: reported, then waiting */
+    CHECK(command(0x30, 0x1020) == 0x1020);
+    CHECK(dfb_report_words(tick(DFB_OUTPUT)) == 18);
+    ACCEPTED_32(DFB_WAITING, state, DFB_STATE * sizeof *state, tick(DFB_OUTPUT));
+    CHECK(dfb_report_words(DFB_WAITING) == 0);
+}
+
+/* Reports of every size. */
+static void test_reports(void)
+{
+    make_board(DFB_OUTPUT);
+    for (unsigned setting = 0; setting < 3; setting++)
+        for (unsigned enabled = 1; enabled <= 7; enabled++) {
+            memset(state, 0, DFB_STATE * sizeof *state);
+            for (unsigned n = 0; n < enabled; n++)
+                CHECK(command((uint8_t)(0x36 - n), 0x0020) == 0x0020);
+            uint16_t first = (uint16_t)(setting << 6 | (enabled == 7 ? 0x20u : 0u));
+            CHECK(command(0x30, first) == first);
+            uint32_t answer = tick(DFB_OUTPUT);
+            CHECK(dfb_refusal_u32(answer) == 0);
+            CHECK(dfb_report_words(answer) == enabled * dfb_band_count((uint8_t)setting) / 2);
+        }
+}
+
+static void test_tick_refused(void)
+{
+    make_board(DFB_OUTPUT);
+    CHECK(command(0x30, 0x0020) == 0x0020);
+    REFUSED_32(2u, dfb_tick(state, DFB_STATE - 1, totals, DFB_TOTALS, powers, DFB_POWERS, out, DFB_OUTPUT));
+    REFUSED_32(2u, dfb_tick(state, DFB_STATE, totals, DFB_TOTALS - 1, powers, DFB_POWERS, out, DFB_OUTPUT));
+    REFUSED_32(2u, dfb_tick(state, DFB_STATE, totals, DFB_TOTALS, powers, DFB_POWERS - 1, out, DFB_OUTPUT));
+    REFUSED_32(2u, tick(DFB_OUTPUT - 1));
+    REFUSED_32(2u, dfb_tick(NULL, 0, totals, DFB_TOTALS, powers, DFB_POWERS, out, DFB_OUTPUT));
+    REFUSED_32(2u, dfb_tick(state, DFB_STATE, NULL, 0, powers, DFB_POWERS, out, DFB_OUTPUT));
+    REFUSED_32(2u, dfb_tick(state, DFB_STATE, totals, DFB_TOTALS, NULL, 0, out, DFB_OUTPUT));
+    REFUSED_32(2u, dfb_tick(state, DFB_STATE, totals, DFB_TOTALS, powers, DFB_POWERS, NULL, 0));
+    CHECK(dfb_report_words(tick(DFB_OUTPUT - 1)) == 0);
+    state[7] = 1;
+    REFUSED_32(3u, tick(DFB_OUTPUT));
+    REFUSED_32(2u, tick(DFB_OUTPUT - 1));
+    CHECK(dfb_report_words(tick(DFB_OUTPUT)) == 0);
+    state[7] = 0;
+    totals[0] = 1;
+    REFUSED_32(3u, tick(DFB_OUTPUT));
+    totals[0] = 0;
+    state[0] = 0x00E0;
+    REFUSED_32(3u, tick(DFB_OUTPUT));
+}
+
+/* ---- words and sets ---- */
+
+static void test_sets(void)
+{
+    int16_t *samples = (int16_t *)make_list(8 * sizeof *samples), *again = (int16_t *)make_list(9 * sizeof *again);
+    uint8_t *bytes = (uint8_t *)make_list(27);
+    samples[0] = 1, samples[1] = -1, samples[2] = -32768;
+    for (unsigned apid = 0; apid < 256; apid++) {
+        size_t words = dfb_set_words((uint8_t)apid);
+        CHECK(words <= DFB_MOST_WORDS);
+        for (size_t n = 0; n <= 8; n++) {
+            if (words == 0) {
+                REFUSED_32(4u, dfb_pack((uint8_t)apid, samples, n, bytes, 27));
+                REFUSED_32(4u, dfb_unpack((uint8_t)apid, bytes, 3 * n, again, 9));
+            } else if (n != words) {
+                REFUSED_32(2u, dfb_pack((uint8_t)apid, samples, n, bytes, 27));
+                REFUSED_32(2u, dfb_unpack((uint8_t)apid, bytes, 3 * n, again, 9));
+            } else {
+                REFUSED_32(2u, dfb_pack((uint8_t)apid, samples, n, bytes, 3 * n - 1));
+                ACCEPTED_32(3 * n, bytes, 3 * n, dfb_pack((uint8_t)apid, samples, n, bytes, 27));
+                CHECK(bytes[0] == apid && bytes[1] == 0x00 && bytes[2] == 0x01);
+                CHECK(bytes[3] == apid && bytes[4] == 0xFF && bytes[5] == 0xFF);
+                CHECK(bytes[6] == apid && bytes[7] == 0x80 && bytes[8] == 0x00);
+                REFUSED_32(2u, dfb_unpack((uint8_t)apid, bytes, 3 * n, again, n - 1));
+                REFUSED_32(2u, dfb_unpack((uint8_t)apid, bytes, 3 * n - 1, again, 9));
+                ACCEPTED_32(n, again, n * sizeof *again, dfb_unpack((uint8_t)apid, bytes, 3 * n, again, 9));
+                CHECK(memcmp(samples, again, n * sizeof *again) == 0);
+                bytes[3 * n - 3] ^= 1;
+                REFUSED_32(5u, dfb_unpack((uint8_t)apid, bytes, 3 * n, again, 9));
+                REFUSED_32(2u, dfb_unpack((uint8_t)apid, bytes, 3 * n, again, n - 1));
+            }
+        }
+    }
+    REFUSED_32(2u, dfb_pack(0x43, NULL, 0, bytes, 27));
+    REFUSED_32(2u, dfb_pack(0x43, samples, 3, NULL, 0));
+    REFUSED_32(2u, dfb_unpack(0x43, NULL, 0, again, 9));
+    REFUSED_32(2u, dfb_unpack(0x43, bytes, 9, NULL, 0));
+    REFUSED_32(4u, dfb_pack(DFB_APID_SPEC, NULL, 0, NULL, 0));
+}
+
+/* ---- the log ---- */
+
+static void test_append(void)
+{
+    uint8_t *log = (uint8_t *)make_list(20);
+    ACCEPTED_64(4u, log, 4, dfb_append(log, 20, 0, DFB_KIND_COMMAND, 0x30, 0xFFE3));
+    ACCEPTED_64(8u, log, 8, dfb_append(log, 20, 4, DFB_KIND_WORD, 0x4E, 0x0C0F));
+    ACCEPTED_64(13u, log, 13, dfb_append(log, 20, 8, DFB_KIND_SECOND_MARK, 0, 0x89ABCDEF));
+    ACCEPTED_64(14u, log, 14, dfb_append(log, 20, 13, DFB_KIND_TICK, 0, 0));
+    static const uint8_t expected[14] = {1, 0x30, 0xFF, 0xE3, 2, 0x4E, 0x0C, 0x0F, 3, 0x89, 0xAB, 0xCD, 0xEF, 4};
+    CHECK(memcmp(log, expected, sizeof expected) == 0);
+
+    REFUSED_64(9u, dfb_append(log, 20, 14, 0, 0x30, 0));
+    REFUSED_64(9u, dfb_append(log, 20, 21, 5, 0, 0));
+    REFUSED_64(1u, dfb_append(log, 20, 14, DFB_KIND_COMMAND, 0x37, 0));
+    REFUSED_64(1u, dfb_append(log, 20, 21, DFB_KIND_COMMAND, 0x2F, 0x10000));
+    REFUSED_64(4u, dfb_append(log, 20, 14, DFB_KIND_WORD, 0x42, 0));
+    REFUSED_64(4u, dfb_append(log, 20, 21, DFB_KIND_WORD, 0x49, 0x10000));
+    REFUSED_64(2u, dfb_append(log, 20, 21, DFB_KIND_TICK, 0, 0));
+    REFUSED_64(2u, dfb_append(log, 20, SIZE_MAX, DFB_KIND_TICK, 0, 0));
+    REFUSED_64(2u, dfb_append(log, 20, 14, DFB_KIND_COMMAND, 0x30, 0x10000));
+    REFUSED_64(2u, dfb_append(log, 20, 14, DFB_KIND_WORD, 0x43, 0x10000));
+    REFUSED_64(2u, dfb_append(NULL, 0, 0, DFB_KIND_TICK, 0, 0));
+    for (unsigned kind = 1; kind <= 4; kind++) {
+        size_t bytes = dfb_record_bytes((uint8_t)kind);
+        REFUSED_64(2u, dfb_append(log, 20, 21 - bytes, (uint8_t)kind, kind == 2 ? 0x43 : 0x30, 0));
+        CHECK(dfb_append(log, 20, 20 - bytes, (uint8_t)kind, kind == 2 ? 0x43 : 0x30, 0) == 20);
+    }
+    for (unsigned kind = 5; kind < 256; kind++)
+        CHECK(dfb_record_bytes((uint8_t)kind) == 0);
+    CHECK(dfb_record_bytes(0) == 0);
+}
+
+static void test_read_record(void)
+{
+    static const uint8_t bytes[14] = {1, 0x30, 0xFF, 0xE3, 2, 0x4E, 0x0C, 0x0F, 3, 0x89, 0xAB, 0xCD, 0xEF, 4};
+    uint8_t *log = (uint8_t *)make_list(sizeof bytes);
+    uint32_t *record = (uint32_t *)make_list(5 * sizeof *record);
+    memcpy(log, bytes, sizeof bytes);
+    enum { THREE = DFB_RECORD * sizeof(uint32_t) };
+    ACCEPTED_64(4u, record, THREE, dfb_read_record(log, 14, 0, record, 5));
+    CHECK(record[0] == DFB_KIND_COMMAND && record[1] == 0x30 && record[2] == 0xFFE3);
+    ACCEPTED_64(8u, record, THREE, dfb_read_record(log, 14, 4, record, 5));
+    CHECK(record[0] == DFB_KIND_WORD && record[1] == 0x4E && record[2] == 0x0C0F);
+    ACCEPTED_64(13u, record, THREE, dfb_read_record(log, 14, 8, record, 5));
+    CHECK(record[0] == DFB_KIND_SECOND_MARK && record[1] == 0 && record[2] == 0x89ABCDEF);
+    ACCEPTED_64(14u, record, THREE, dfb_read_record(log, 14, 13, record, DFB_RECORD));
+    CHECK(record[0] == DFB_KIND_TICK && record[1] == 0 && record[2] == 0);
+    ACCEPTED_64(14u, record, THREE, dfb_read_record(log, 14, 14, record, 5));
+    CHECK(record[0] == DFB_KIND_END && record[1] == 0 && record[2] == 0);
+    ACCEPTED_64(0u, record, THREE, dfb_read_record(NULL, 0, 0, record, 5));
+
+    REFUSED_64(2u, dfb_read_record(log, 14, 15, record, 5));
+    REFUSED_64(2u, dfb_read_record(log, 14, SIZE_MAX, record, 5));
+    REFUSED_64(2u, dfb_read_record(log, 14, 0, record, DFB_RECORD - 1));
+    REFUSED_64(2u, dfb_read_record(log, 14, 14, record, 2));
+    REFUSED_64(2u, dfb_read_record(log, 14, 0, NULL, 0));
+    REFUSED_64(10u, dfb_read_record(log, 3, 0, record, 5));
+    REFUSED_64(10u, dfb_read_record(log, 12, 8, record, 2));
+    REFUSED_64(9u, dfb_read_record(log, 14, 1, record, 5));
+    REFUSED_64(9u, dfb_read_record(log, 14, 1, record, 2));
+    log[1] = 0x37;
+    REFUSED_64(1u, dfb_read_record(log, 14, 0, record, 2));
+    REFUSED_64(10u, dfb_read_record(log, 3, 0, record, 2));
+    log[5] = 0x42;
+    REFUSED_64(4u, dfb_read_record(log, 14, 4, record, 0));
+}
+
+static void test_listing(void)
+{
+    static const uint8_t bytes[] = {1, 0x30, 0x00, 0xE3, 2, 0x43, 0x00, 0x01, 2, 0x43, 0xFF, 0xFF, 2, 0x43, 0x80, 0x00, 3, 0, 0, 0, 7, 4};
+    static const char text[] = "DFB LOG 1\nC 30 0063\nW 43 1 -1 -32768\nS 7\nT\nEND 6\n", empty[] = "DFB LOG 1\nEND 0\n";
+    size_t length = sizeof bytes, room = dfb_listing_room(sizeof bytes);
+    uint8_t *log = (uint8_t *)make_list(length), *listing = (uint8_t *)make_list(room + 9);
+    memcpy(log, bytes, length);
+    REFUSED_64(2u, dfb_listing(log, length, listing, room - 1));
+    REFUSED_64(2u, dfb_listing(log, length, NULL, 0));
+    ACCEPTED_64(sizeof text - 1, listing, sizeof text - 1, dfb_listing(log, length, listing, room + 9));
+    CHECK(memcmp(listing, text, sizeof text - 1) == 0);
+    ACCEPTED_64(sizeof empty - 1, listing, sizeof empty - 1, dfb_listing(NULL, 0, listing, dfb_listing_room(0)));
+    CHECK(memcmp(listing, empty, sizeof empty - 1) == 0);
+
+    static const char too_long[] = "DFB LOG 1\nBAD 11 65536\n";
+    uint8_t *long_log = (uint8_t *)make_list(DFB_MOST_LISTED + 1), *long_text = (uint8_t *)make_list(dfb_listing_room(DFB_MOST_LISTED));
+    memset(long_log, DFB_KIND_TICK, DFB_MOST_LISTED + 1);
+    REFUSED_64(2u, dfb_listing(long_log, DFB_MOST_LISTED, long_text, dfb_listing_room(DFB_MOST_LISTED) - 1));
+    ACCEPTED_64(16u + 2u * DFB_MOST_LISTED + 4u, long_text, dfb_listing_room(DFB_MOST_LISTED),
+                dfb_listing(long_log, DFB_MOST_LISTED, long_text, dfb_listing_room(DFB_MOST_LISTED)));
+    REFUSED_64(2u, dfb_listing(long_log, DFB_MOST_LISTED + 1, long_text, dfb_listing_room(DFB_MOST_LISTED + 1) - 1));
+    ACCEPTED_64(sizeof too_long - 1, long_text, sizeof too_long - 1,
+                dfb_listing(long_log, DFB_MOST_LISTED + 1, long_text, dfb_listing_room(DFB_MOST_LISTED + 1)));
+    CHECK(memcmp(long_text, too_long, sizeof too_long - 1) == 0);
+}
+
+/* ---- bands and codes ---- */
+
+static void test_bands(void)
+{
+    ACCEPTED_16(4u, dfb_band_of(0, 4));
+    ACCEPTED_16(32u, dfb_band_of(0, 512));
+    for (unsigned setting = 0; setting < 256; setting++) {
+        size_t count = dfb_band_count((uint8_t)setting);
+        if (count == 0)
+            REFUSED_16(12u, dfb_band_of((uint8_t)setting, 0));
+        else
+            ACCEPTED_16(count - 1, dfb_band_of((uint8_t)setting, 1023));
+        REFUSED_16(12u, dfb_band_of((uint8_t)setting, 1024));
+        REFUSED_16(12u, dfb_band_of((uint8_t)setting, 0xFFFF));
+    }
+
+    float *three = (float *)make_list(5 * sizeof *three);
+    ACCEPTED_32(0u, three, 3 * sizeof *three, dfb_describe_band(2, 111, three, 5));
+    CHECK(three[0] == 7936.0f && three[1] == 8064.0f && three[2] == 256.0f);
+    ACCEPTED_32(0u, three, 3 * sizeof *three, dfb_describe_band(0, 0, three, 3));
+    CHECK(three[0] == 0.0f && three[1] == 4.0f && three[2] == 8.0f);
+    for (unsigned setting = 0; setting < 3; setting++) {
+        uint8_t count = (uint8_t)dfb_band_count((uint8_t)setting);
+        REFUSED_32(12u, dfb_describe_band((uint8_t)setting, count, three, 2));
+        REFUSED_32(2u, dfb_describe_band((uint8_t)setting, (uint8_t)(count - 1), three, 2));
+    }
+    REFUSED_32(12u, dfb_describe_band(3, 0, three, 5));
+    REFUSED_32(2u, dfb_describe_band(0, 0, NULL, 0));
+}
+
+static void test_cadence(void)
+{
+    static const float values[11] = {8, 4, 2, 1, 2, 4, 8, 16, 32, 64, 128};
+    float *value = (float *)make_list(3 * sizeof *value);
+    for (unsigned choice = 0; choice < 256; choice++) {
+        if (choice > 10) {
+            REFUSED_32(12u, dfb_cadence_of((uint8_t)choice, value, 3));
+            REFUSED_32(12u, dfb_cadence_of((uint8_t)choice, NULL, 0));
+            continue;
+        }
+        ACCEPTED_32(choice <= 3 ? DFB_RATE : DFB_PERIOD, value, sizeof *value, dfb_cadence_of((uint8_t)choice, value, 3));
+        CHECK(value[0] == values[choice]);
+        REFUSED_32(2u, dfb_cadence_of((uint8_t)choice, value, 0));
+        REFUSED_32(2u, dfb_cadence_of((uint8_t)choice, NULL, 0));
+    }
+}
+
+static void test_codes(void)
+{
+    CHECK(dfb_compress_band(7) == 0x07 && dfb_compress_band(8) == 0x0C && dfb_compress_band(15) == 0x0F);
+    CHECK(dfb_compress_band(4294967295u) == 0xEF);
+    ACCEPTED_64(14u, NULL, 0, dfb_expand_band(0x0F));
+    ACCEPTED_64(3758096384u, NULL, 0, dfb_expand_band(0xEF));
+    REFUSED_64(7u, dfb_expand_band(0x08));
+    REFUSED_64(7u, dfb_expand_band(0xF4));
+
+    CHECK(dfb_compress_sum(1023) == 0x03FF && dfb_compress_sum(1024) == 0x0600 && dfb_compress_sum(UINT64_MAX) == 0xDBFF);
+    uint64_t *value = (uint64_t *)make_list(2 * sizeof *value);
+    ACCEPTED_32(0u, value, sizeof *value, dfb_expand_sum(0xFC01, value, 2));
+    CHECK(value[0] == (uint64_t)1 << 63);
+    ACCEPTED_32(0u, value, sizeof *value, dfb_expand_sum(0xFC00, value, 1));
+    CHECK(value[0] == 0);
+    REFUSED_32(8u, dfb_expand_sum(0xFC02, value, 2));
+    REFUSED_32(8u, dfb_expand_sum(0xFC02, NULL, 0));
+    REFUSED_32(2u, dfb_expand_sum(0x0600, value, 0));
+    REFUSED_32(2u, dfb_expand_sum(0x0600, NULL, 0));
+}
+
+/* ---- bursts ---- */
+
+static void test_bursts(void)
+{
+    uint8_t *status = (uint8_t *)zero_list(33);
+    uint32_t *criteria = (uint32_t *)zero_list(33 * sizeof *criteria);
+    REFUSED_32(26u, dfb_burst_choose(status, 2, criteria, 2));
+    REFUSED_32(28u, dfb_burst_finish(status, 2, criteria, 2));
+
+    /* slot, and slots looked at: the first free one; then the smallest that is smaller than the offer */
+    static const unsigned offers[4][3] = {{5, 0, 1}, {9, 1, 2}, {7, 0, 2}, {10, 0, 2}};
+    for (unsigned i = 0; i < 4; i++) {
+        uint32_t answer = dfb_burst_offer(status, 2, criteria, 2, offers[i][0]);
+        CHECK(dfb_refusal_u32(answer) == 0);
+        CHECK(dfb_offer_slot(answer) == offers[i][1] && dfb_offer_looked(answer) == offers[i][2]);
+    }
+    CHECK(status[0] == DFB_SLOT_HELD && status[1] == DFB_SLOT_HELD && criteria[0] == 10 && criteria[1] == 9);
+    remember();
+    uint32_t answer = dfb_burst_offer(status, 2, criteria, 2, 9);
+    CHECK(dfb_refusal_u32(answer) == DFB_REFUSAL_TURNED_AWAY && dfb_offer_looked(answer) == 2);
+    CHECK(is_unchanged_but(NULL, 0));
+
+    CHECK(dfb_burst_choose(status, 2, criteria, 2) == 0);
+    CHECK(status[0] == DFB_SLOT_SENDING && criteria[0] == 0 && criteria[1] == 9);
+    REFUSED_32(27u, dfb_burst_choose(status, 2, criteria, 2));
+    CHECK(dfb_burst_finish(status, 2, criteria, 2) == 0);
+    CHECK(status[0] == DFB_SLOT_FREE && status[1] == DFB_SLOT_HELD && status[2] == DFB_SLOT_FREE);
+    REFUSED_32(28u, dfb_burst_finish(status, 2, criteria, 2));
+
+    /* the last of 32 slots, and every slot looked at */
+    memset(status, DFB_SLOT_HELD, 33);
+    status[31] = DFB_SLOT_FREE;
+    answer = dfb_burst_offer(status, 32, criteria, 32, 4);
+    CHECK(dfb_refusal_u32(answer) == 0 && dfb_offer_slot(answer) == 31 && dfb_offer_looked(answer) == 32);
+
+    /* 2, then 3: more than 32 slots, a status over 2, two sending; before 25, 26, 27, 28 */
+    for (unsigned fault = 0; fault < 3; fault++) {
+        size_t count = fault == 0 ? 33 : 2;
+        status[0] = fault == 1 ? 3 : fault == 2 ? DFB_SLOT_SENDING : DFB_SLOT_FREE;
+        status[1] = fault == 2 ? DFB_SLOT_SENDING : DFB_SLOT_FREE;
+        REFUSED_32(3u, dfb_burst_offer(status, count, criteria, count, 1));
+        REFUSED_32(3u, dfb_burst_choose(status, count, criteria, count));
+        REFUSED_32(3u, dfb_burst_finish(status, count, criteria, count));
+        REFUSED_32(2u, dfb_burst_offer(status, count, criteria, count - 1, 1));
+        REFUSED_32(2u, dfb_burst_choose(status, count - 1, criteria, count));
+        REFUSED_32(2u, dfb_burst_finish(status, count, criteria, count - 1));
+    }
+
+    /* no slot at all */
+    answer = dfb_burst_offer(NULL, 0, NULL, 0, 1);
+    CHECK(dfb_refusal_u32(answer) == DFB_REFUSAL_TURNED_AWAY && dfb_offer_looked(answer) == 0);
+    REFUSED_32(26u, dfb_burst_choose(NULL, 0, NULL, 0));
+    REFUSED_32(28u, dfb_burst_finish(NULL, 0, NULL, 0));
+    REFUSED_32(2u, dfb_burst_choose(NULL, 0, criteria, 1));
+}
+
+static void test_interval(void)
+{
+    uint32_t *index = (uint32_t *)zero_list((DFB_MOST_BLOCKS + 1) * sizeof *index);
+    REFUSED_64(2u, dfb_choose_interval(index, DFB_MOST_BLOCKS + 1, 0, 0));
+    REFUSED_64(29u, dfb_choose_interval(index, DFB_MOST_BLOCKS, 0, 0));
+    REFUSED_64(26u, dfb_choose_interval(index, DFB_MOST_BLOCKS, 0, 1));
+    REFUSED_64(26u, dfb_choose_interval(NULL, 0, 0, 1));
+    REFUSED_64(29u, dfb_choose_interval(NULL, 0, 0, 0));
+    for (size_t i = 0; i < DFB_MOST_BLOCKS; i++)
+        index[i] = 5;
+    uint64_t answer = dfb_choose_interval(index, DFB_MOST_BLOCKS, 0, UINT32_MAX);
+    CHECK(dfb_refusal_u64(answer) == 0 && dfb_interval_first(answer) == 0 && dfb_interval_last(answer) == 15999);
+    index[DFB_MOST_BLOCKS - 1] = 6;
+    answer = dfb_choose_interval(index, DFB_MOST_BLOCKS, 0, 1);
+    CHECK(dfb_refusal(answer) == 0 && dfb_interval_first(answer) == 15999 && dfb_interval_last(answer) == 15999);
+    index[1] = 1, index[2] = 5, index[3] = 9, index[4] = 9, index[5] = 2, index[6] = 1;
+    answer = dfb_choose_interval(index + 1, 6, 4, 10);
+    CHECK(dfb_refusal_u64(answer) == 0 && dfb_interval_first(answer) == 1 && dfb_interval_last(answer) == 3);
+}
+
+/* ---- the header by itself ---- */
+
+static void test_meanings(void)
+{
+    static const uint8_t numbers[] = {1, 2, 3, 4, 5, 6, 7, 8, 9, 10, 11, 12, 13, 25, 26, 27, 28, 29};
+    size_t found = 0;
+    for (unsigned n = 0; n < 0x20000; n++) {
+        int is_refusal = found < sizeof numbers && numbers[found] == n;
+        CHECK((dfb_meaning(n) != NULL) == is_refusal);
+        found += (size_t)is_refusal;
+    }
+    CHECK(strcmp(dfb_meaning(DFB_REFUSAL_ALREADY_SENDING), "a slot is already sending") == 0);
+}
+
+/* Answers that no function gives today are no refusals either, unless they are a base and a number. */
+static void test_bases(void)
+{
+    CHECK(dfb_refusal_u16(0xFF) == 0 && dfb_refusal_u16(0x101) == 1 && dfb_refusal_u16(0x163) == 99);
+    CHECK(dfb_refusal_u32(0xFFFFu) == 0 && dfb_refusal_u32(0x10001u) == 1 && dfb_refusal_u32(0x10063u) == 99);
+    CHECK(dfb_refusal_u32(0x20001u) == 0 && dfb_refusal_u32(0x30001u) == 0 && dfb_refusal_u32(0x80010001u) == 0);
+    CHECK(dfb_refusal_u32(0x2010019u) == 25 && dfb_offer_looked(0x2010019u) == 32);
+    CHECK(dfb_refusal_u64(DFB_REFUSED_63 - 1) == 0 && dfb_refusal_u64(DFB_REFUSED_63 + 99) == 99);
+    CHECK(dfb_report_words(DFB_REPORTED + 392) == 392 && dfb_report_words(DFB_REPORTED - 1) == 0);
+    CHECK(dfb_offer_slot(0x20FFFFFu) == 0xFFFF && dfb_interval_first(0x12345678u) == 0x5678 && dfb_interval_last(0x12345678u) == 0x1234);
+}
+
+static void test_offsets(void)
+{
+    static const uint64_t offsets[] = {0, 1, 255, 256, 65536, ((uint64_t)1 << 55) - 1};
+    for (size_t i = 0; i < sizeof offsets / sizeof *offsets; i++)
+        for (unsigned refusal = 1; refusal < 100; refusal++) {
+            uint64_t answer = DFB_REFUSED_63 + 256 * offsets[i] + refusal;
+            CHECK(dfb_refusal_u64(answer) == refusal && dfb_refusal_offset(answer) == offsets[i]);
+        }
+    CHECK(dfb_refusal_offset(dfb_expand_band(0x08)) == 0);
+}
+
+static void test_version(void)
+{
+    char version[32];
+    snprintf(version, sizeof version, "%d.%d.%d", DFB_VERSION_MAJOR, DFB_VERSION_MINOR, DFB_VERSION_PATCH);
+    CHECK(strcmp(version, DFB_VERSION) == 0);
+}
+
+/* ---- calls side by side ---- */
+
+enum { SPECTRA = 64, THREADS = 4 };
+
+struct bench {
+    uint16_t state[DFB_STATE];
+    uint64_t totals[DFB_TOTALS];
+    uint32_t powers[DFB_POWERS];
+    uint8_t out[DFB_OUTPUT];
+    uint64_t answers;
+};
+
+/* N = C = 8, seven processors, 112 bands: periods of spectra that differ, and the sum of answers and words. */
+static void *run_board(void *argument)
+{
+    struct bench *bench = (struct bench *)argument;
+    memset(bench, 0, sizeof *bench);
+    for (unsigned n = 7; n-- > 0;)
+        bench->answers += dfb_command(bench->state, DFB_STATE, bench->totals, DFB_TOTALS, (uint8_t)(0x30 + n), n == 0 ? 0x33A0 : 0x20);
+    for (uint32_t t = 0; t < SPECTRA; t++) {
+        for (uint32_t k = 0; k < DFB_POWERS; k++)
+            bench->powers[k] = k * 2654435761u + t * 40503u;
+        bench->answers = 31 * bench->answers + dfb_tick(bench->state, DFB_STATE, bench->totals, DFB_TOTALS, bench->powers, DFB_POWERS,
+                                                        bench->out, DFB_OUTPUT);
+        for (size_t i = 0; i < DFB_OUTPUT; i++)
+            bench->answers = 31 * bench->answers + bench->out[i];
+    }
+    return NULL;
+}
+
+static void test_side_by_side(void)
+{
+    static struct bench alone, beside[THREADS];
+    pthread_t threads[THREADS];
+    run_board(&alone);
+    CHECK(alone.answers != 0 && alone.state[7] == 0);
+    for (unsigned i = 0; i < THREADS; i++)
+        CHECK(pthread_create(&threads[i], NULL, run_board, &beside[i]) == 0);
+    for (unsigned i = 0; i < THREADS; i++) {
+        CHECK(pthread_join(threads[i], NULL) == 0);
+        CHECK(memcmp(&alone, &beside[i], sizeof alone) == 0);
+    }
+}
+
+static const struct test {
+    const char *name;
+    void (*run)(void);
+} tests[] = {
+    {"command", test_command},
+    {"long lists", test_long_lists},
+    {"read", test_read},
+    {"tick", test_tick},
+    {"reports", test_reports},
+    {"tick refused", test_tick_refused},
+    {"sets", test_sets},
+    {"append", test_append},
+    {"read_record", test_read_record},
+    {"listing", test_listing},
+    {"bands", test_bands},
+    {"cadence", test_cadence},
+    {"codes", test_codes},
+    {"bursts", test_bursts},
+    {"interval", test_interval},
+    {"meanings", test_meanings},
+    {"bases", test_bases},
+    {"offsets", test_offsets},
+    {"version", test_version},
+    {"side by side", test_side_by_side},
+};
+
+int main(void)
+{
+    unsigned passed = 0, failed = 0;
+    for (size_t i = 0; i < sizeof tests / sizeof *tests; i++) {
+        unsigned before = faults;
+        tests[i].run();
+        drop_lists();
+        if (faults == before) {
+            passed++;
+        } else {
+            failed++;
+            printf("%s: failed\n", tests[i].name);
+        }
+    }
+    printf("%u passed, %u failed\n", passed, failed);
+    return failed != 0;
+}

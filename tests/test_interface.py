@@ -1,0 +1,352 @@
+"""The interface is declared four times: by the Rattle sources, include/dfb.h, Rust's ffi and Python's table. These tests read all four and
+compare every exported function (name, number, order, names and types of parameters, constness, type of the answer), every constant of the
+header and every refusal with its meaning. Wrong edits of each are tried, and must be found."""
+import ctypes
+import os
+import re
+import shutil
+import tempfile
+import types
+import unittest
+
+from c_program import C99, DIST, TOP, build, run
+
+# 01, "Words and sets".
+APIDS = {"E_SVY": 0x43, "V_SVY": 0x44, "MAG_SVY": 0x45, "E_B1": 0x46, "V_B1": 0x47, "SCM_B1": 0x48, "SPEC": 0x4E}
+
+
+def read(*path):
+    with open(os.path.join(TOP, *path), encoding="utf8") as file:
+        return file.read()
+
+
+def sources():
+    """The text of each declaration."""
+    crates = "refusal registers words log model listing bursts interval dfb_refusals dfb_board dfb_log dfb_bands dfb_bursts dfb_interval"
+    texts = {crate: read("crates", crate, "src", "lib.rt") for crate in crates.split()}
+    texts.update(header=read("include", "dfb.h"), rust=read("rust", "src", "lib.rs"), python=read("python", "dfb.py"))
+    texts.update(cargo=read("rust", "Cargo.toml"))
+    return texts
+
+
+def number(text):
+    return int(text.replace("_", "").rstrip("u"), 0)
+
+
+def one(pattern, text):
+    """What the one match of a pattern has in its group."""
+    found = re.findall(pattern, text)
+    if len(found) != 1:
+        raise ValueError("%d matches of %s" % (len(found), pattern))
+    return found[0]
+
+
+def capitals(name):
+    """UnknownCommand as UNKNOWN_COMMAND."""
+    return re.sub(r"(?<=[a-z])(?=[A-Z])", "_", name).upper()
+
+
+# ---- functions: a name with the answer's type and the parameters, each a type and a name; types as in Rust ----
+
+
+def parameters(text, parse):
+    return [parsed for part in text.split(",") if part.strip() for parsed in parse(" ".join(part.split()))]
+
+
+def c_type(text):
+    names = {"float": "f32", "size_t": "usize"}
+    return names.get(text) or re.sub(r"^(u?)int(\d+)_t$", lambda m: ("u" if m[1] else "i") + m[2], text)
+
+
+def c_parameter(text):
+    const, base, star, name = re.fullmatch(r"(const )?(\w+) (\*?)(\w+)", text).groups()
+    pointer = ("*const " if const else "*mut ") if star else ""
+    return [(pointer + c_type(base), name)]
+
+
+def header_functions(text):
+    text = re.sub(r"/\*.*?\*/", "", text, flags=re.DOTALL)
+    found = re.findall(r"^(\w+) (dfb_\w+)\(([^()]*)\);", text, re.MULTILINE)
+    return {name: (c_type(answer), parameters(inside, c_parameter)) for answer, name, inside in found}
+
+
+def rattle_parameter(text):
+    name, kind = text.split(": ")
+    slice_of = re.fullmatch(r"&(mut )?\[(\w+)\]", kind)
+    if slice_of is None:
+        return [(kind, name)]
+    return [(("*mut " if slice_of[1] else "*const ") + slice_of[2], name), ("usize", name + "_len")]
+
+
+def rattle_functions(texts):
+    found = [function for crate in texts if crate.startswith("dfb_")
+             for function in re.findall(r'pub extern "C" fn (\w+)\(([^)]*)\) -> (\w+)', texts[crate])]
+    return {name: (answer, parameters(inside, rattle_parameter)) for name, inside, answer in found}
+
+
+def rust_functions(text):
+    found = re.findall(r"^        pub fn (dfb_\w+)\(([^)]*)\) -> (\w+);", text, re.MULTILINE)
+    return {name: (answer, parameters(inside, lambda part: [tuple(reversed(part.split(": ")))])) for name, inside, answer in found}
+
+
+def python_module(text):
+    module = types.ModuleType("dfb_text")
+    module.__file__ = os.path.join(DIST, "dfb.py")
+    exec(compile(text, "dfb.py", "exec"), module.__dict__)
+    return module
+
+
+def python_type(c):
+    """The type as Rust names it; Python's pointers are neither const nor mut, and its size_t is its 64-bit number."""
+    if hasattr(c, "contents"):
+        return "*" + python_type(c._type_)
+    names = {ctypes.c_uint8: "u8", ctypes.c_uint16: "u16", ctypes.c_uint32: "u32", ctypes.c_uint64: "u64", ctypes.c_int16: "i16"}
+    return names.get(c) or {ctypes.c_float: "f32"}.get(c) or "unknown type " + c.__name__
+
+
+def python_functions(module):
+    """Of the functions that the module's own table names."""
+    names = re.findall(r'^    \("(\w+)", U', module.text, re.MULTILINE)
+    functions = {"dfb_" + name: getattr(module._library, "dfb_" + name) for name in names}
+    return {name: (python_type(f.restype), [python_type(argument) for argument in f.argtypes]) for name, f in functions.items()}
+
+
+def as_python(function):
+    """A function as Python's table has it."""
+    plain = {"usize": "u64"}
+    kinds = [re.sub(r"\*(const|mut) ", "*", kind) for kind, _ in function[1]]
+    return function[0], [plain.get(kind, kind) for kind in kinds]
+
+
+# ---- every name, in whatever layout ----
+
+
+def header_names(text):
+    """Functions that are declared or defined, and macros."""
+    text = re.sub(r"/\*.*?\*/", "", text, flags=re.DOTALL)
+    macros = re.findall(r"^\s*#\s*define\s+(\w+)", text, re.MULTILINE)
+    text = re.sub(r"^\s*#(?:.*\\\n)*.*$", "", text, flags=re.MULTILINE)
+    text = re.sub(r"^\{.*?^\}", "", text, flags=re.MULTILINE | re.DOTALL)
+    return sorted(re.findall(r"(\w+)\s*\(", text)) + sorted(macros)
+
+
+def known_names(texts):
+    """The functions of the sources, the header's inline functions, its constants, and four further macros."""
+    inline = re.findall(r"^static inline .*?(\w+)\(", texts["header"], re.MULTILINE)
+    macros = set(header_constants(texts["header"])) - set(re.findall(r"^    (DFB_\w+) =", texts["header"], re.MULTILINE))
+    return sorted(list(rattle_functions(texts)) + inline) + sorted(macros | {"DFB_H", "DFB_VERSION", "dfb_refusal"})
+
+
+def name_differences(texts, module):
+    found, known = header_names(texts["header"]), known_names(texts)
+    differences = [] if found == known else ["header: %s" % sorted(set(found) ^ set(known))]
+    ffi = re.findall(r"fn (dfb_\w+)", texts["rust"])
+    return differences + ([] if sorted(ffi) == sorted(rattle_functions(texts)) else ["Rust: %s" % ffi])
+
+
+# ---- constants ----
+
+
+def header_constants(text):
+    text = re.sub(r"/\*.*?\*/", "", text, flags=re.DOTALL)
+    found = re.findall(r"^#define (DFB_\w+) (\w+)$", text, re.MULTILINE) + re.findall(r"^    (DFB_\w+) = (\w+),?\s*$", text, re.MULTILINE)
+    return {name: number(value) for name, value in found}
+
+
+def rattle_constant(text, name):
+    return number(one(r"const %s: \w+ = (\w+);" % name, text))
+
+
+def rattle_refusals(text):
+    return {capitals(name): int(value) for name, value in re.findall(r"Refusal::(\w+) => (\d+),", text)}
+
+
+def rattle_constants(texts):
+    """Each constant of the header, from the sources."""
+    constants = {"DFB_STATE": rattle_constant(texts["dfb_board"], "STATE")}
+    constants.update({"DFB_" + name: rattle_constant(texts["model"], name) for name in ("TOTALS", "POWERS", "OUTPUT")})
+    constants.update({"DFB_REFUSAL_" + name: value for name, value in rattle_refusals(texts["refusal"]).items()})
+    constants["DFB_REFUSED_8"] = number(one(r"(\w+) \+ refusal::number\(refusal\) as u16", texts["dfb_bands"]))
+    constants["DFB_REFUSED_16"] = number(one(r"(\w+) \+ refusal::number\(refusal\) as u32", texts["dfb_refusals"]))
+    constants["DFB_REFUSED_63"] = number(one(r"(\w+) \+ refusal::number\(refusal\) as u64", texts["dfb_refusals"]))
+    for name in ("Idle", "Collected", "Waiting"):
+        constants["DFB_" + name.upper()] = number(one(r"TickAnswer::%s => (\w+)," % name, texts["dfb_board"]))
+    constants["DFB_REPORTED"] = number(one(r"TickAnswer::Reported\(words\) => (\w+) \+ words", texts["dfb_board"]))
+    words = {int(apid, 16): int(count) for apid, count in re.findall(r"(0x\w+) => SetWords::Count\((\d+)\)", texts["words"])}
+    constants.update({"DFB_APID_" + name: apid for name, apid in APIDS.items() if apid in words})
+    constants["DFB_APID_SPEC"] = rattle_constant(texts["words"], "SPEC")
+    constants.update({"DFB_WORDS_" + name: words[apid] for name, apid in APIDS.items() if apid in words})
+    constants["DFB_MOST_WORDS"] = max(words.values())
+    constants.update({"DFB_KIND_" + name: rattle_constant(texts["log"], name) for name in ("COMMAND", "WORD", "SECOND_MARK", "TICK")})
+    constants["DFB_KIND_END"] = number(one(r"Read::End => put_numbers\(numbers, at, (\d+), 0, 0\)", texts["dfb_log"]))
+    constants["DFB_RECORD"] = number(one(r"numbers\.len\(\) < (\d+)", texts["dfb_log"]))
+    constants["DFB_MOST_LISTED"] = rattle_constant(texts["listing"], "MOST")
+    for name in ("Rate", "Period"):
+        constants["DFB_" + name.upper()] = number(one(r"Cadence::%s\(\w+\) => put_value\(value, \w+, (\d+)\)" % name, texts["dfb_bands"]))
+    constants["DFB_MOST_SLOTS"] = rattle_constant(texts["bursts"], "MOST_SLOTS")
+    constants.update({"DFB_SLOT_" + name: rattle_constant(texts["dfb_bursts"], name) for name in ("FREE", "HELD", "SENDING")})
+    constants["DFB_MOST_BLOCKS"] = rattle_constant(texts["interval"], "MOST_BLOCKS")
+    return constants
+
+
+def version_constants(text):
+    major, minor, patch = one(r'#define DFB_VERSION "(\d+)\.(\d+)\.(\d+)"', text)
+    return {"DFB_VERSION_MAJOR": int(major), "DFB_VERSION_MINOR": int(minor), "DFB_VERSION_PATCH": int(patch)}
+
+
+# ---- comparisons: what differs, as lines of text ----
+
+
+def compare(what, found, expected):
+    return ["%s: %s is %s, not %s" % (what, name, found.get(name), expected.get(name))
+            for name in sorted(set(found) | set(expected)) if found.get(name) != expected.get(name)]
+
+
+def function_differences(texts, module):
+    expected = rattle_functions(texts)
+    differences = compare("header", header_functions(texts["header"]), expected)
+    differences += compare("Rust", rust_functions(texts["rust"]), expected)
+    return differences + compare("Python", python_functions(module), {name: as_python(f) for name, f in expected.items()})
+
+
+def constant_differences(texts, module):
+    expected = {**rattle_constants(texts), **version_constants(texts["header"])}
+    differences = compare("header", header_constants(texts["header"]), expected)
+    names = {"STATE", "TOTALS", "POWERS", "OUTPUT", "RECORD", "MOST_WORDS"}
+    python = {name: expected["DFB_" + name] for name in names}
+    python.update({name: expected["DFB_KIND_" + name] for name in ("END", "COMMAND", "WORD", "SECOND_MARK", "TICK")})
+    python.update({name: expected["DFB_SLOT_" + name] for name in ("FREE", "HELD", "SENDING")})
+    capital = {name: value for name, value in vars(module).items() if re.fullmatch(r"[A-Z_]+", name) and isinstance(value, int)}
+    differences += compare("Python", capital, python)
+    rust = re.findall(r"^(?:pub )?const (\w+): \w+ = (\w+);", texts["rust"], re.MULTILINE)
+    return differences + compare("Rust", {name: number(value) for name, value in rust}, {name: expected["DFB_" + name] for name, _ in rust})
+
+
+def refusal_differences(texts, module):
+    numbers = rattle_refusals(texts["refusal"])
+    meanings = dict(re.findall(r"DFB_REFUSAL_(\w+) = \d+,?\s*/\* (.*?) \*/", texts["header"]))
+    differences = compare("meanings", meanings, {name: meanings.get(name, "to be said") for name in numbers})
+    switch = dict(re.findall(r'case DFB_REFUSAL_(\w+): return "(.*)";', texts["header"]))
+    differences += compare("dfb_meaning", switch, meanings)
+    differences += compare("Python", module.MEANINGS, {numbers.get(name): meaning for name, meaning in meanings.items()})
+    rust = {capitals(name): meaning for name, meaning in re.findall(r'Refusal::(\w+) => "(.*)",', texts["rust"])}
+    differences += compare("Rust's meanings", rust, meanings)
+    enum = {capitals(name): int(value) for name, value in re.findall(r"^    (\w+) = (\d+),$", texts["rust"], re.MULTILINE)}
+    differences += compare("Rust's numbers", enum, numbers)
+    of = {capitals(name): int(value) for value, name in re.findall(r"(\d+) => Refusal::(\w+),", texts["rust"])}
+    return differences + compare("Rust's refusals by number", of, numbers)
+
+
+def version_differences(texts, module):
+    version = one(r'#define DFB_VERSION "(.*)"', texts["header"])
+    found = {"Python": module.__version__, "Cargo.toml": one(r'(?m)^version = "(.*)"$', texts["cargo"])}
+    return compare("version", found, {name: version for name in found})
+
+
+def differences(texts):
+    module = python_module(texts["python"])
+    module.text = texts["python"]
+    comparisons = (name_differences, function_differences, constant_differences, refusal_differences, version_differences)
+    return [line for comparison in comparisons for line in comparison(texts, module)]
+
+
+# Each is found by the comparison: the text, what it replaces, and by what.
+WRONG_EDITS = [
+    # an answer's type, constants, swapped parameters, constness, a function that is missing
+    ("header", "uint32_t dfb_pack(", "uint64_t dfb_pack("),
+    ("header", "#define DFB_OUTPUT 1176", "#define DFB_OUTPUT 1167"),
+    ("header", "#define DFB_REFUSED_8 0x100u", "#define DFB_REFUSED_8 0x10000u"),
+    ("header", "uint32_t bonus, uint32_t limit", "uint32_t limit, uint32_t bonus"),
+    ("header", "uint8_t setting, uint8_t band", "uint8_t band, uint8_t setting"),
+    ("header", "dfb_read(const uint16_t *state", "dfb_read(uint16_t *state"),
+    ("header", "dfb_append(uint8_t *log, size_t log_len", "dfb_append(const uint8_t *log, size_t log_len"),
+    ("header", "dfb_expand_band(uint8_t code)", "dfb_expand_band(uint16_t code)"),
+    ("header", "uint16_t dfb_compress_sum(uint64_t value);", ""),
+    ("header", "DFB_REFUSAL_NONE_SENDING = 28,", "DFB_REFUSAL_NONE_SENDING = 26,"),
+    ("header", "DFB_WORDS_V_B1 = 6", "DFB_WORDS_V_B1 = 7"),
+    ("header", "DFB_APID_MAG_SVY = 0x45", "DFB_APID_MAG_SVY = 0x46"),
+    ("header", "DFB_KIND_SECOND_MARK = 3", "DFB_KIND_SECOND_MARK = 4"),
+    ("header", "DFB_SLOT_SENDING = 2", "DFB_SLOT_SENDING = 3"),
+    ("header", "/* a slot is already sending */", "/* a slot is sending */"),
+    ("header", 'return "the set is not complete"', 'return "the set is complete"'),
+    ("header", "#define DFB_VERSION_MINOR ", "#define DFB_VERSION_MINOR 1"),
+    ("header", "#define DFB_RATE 0u", "#define DFB_RATE 1u"),
+    ("header", "#define DFB_TOTALS 784", "#define DFB_TOTALS 784\n#define DFB_MORE (1u << 3)"),
+    ("header", "uint8_t dfb_compress_band(uint32_t value);", "uint8_t dfb_compress_band(uint32_t value);\nextern int dfb_more (void);"),
+    ("rust", "pub fn dfb_compress_band(value: u32) -> u8;", "pub fn dfb_compress_band(value: u32) -> u8; pub fn dfb_more(value: u8);"),
+    ("rust", "information: u16) -> u32;", "information: u16) -> u64;"),
+    ("rust", "bonus: u32, limit: u32) -> u64;", "limit: u32, bonus: u32) -> u64;"),
+    ("rust", "pub const OUTPUT: usize = 1176", "pub const OUTPUT: usize = 1175"),
+    ("rust", "AlreadySending = 27,", "AlreadySending = 28,"),
+    ("rust", '"a slot is already sending"', '"a slot is sending"'),
+    ("python", '("expand_band", U64,', '("expand_band", U32,'),
+    ("python", '("compress_band", U8, [U32])', '("compress_band", U8, [ctypes.c_int32])'),
+    ("python", '("command", U32, _list(U16) + _list(U64)', '("command", U32, _list(U64) + _list(U16)'),
+    ("python", "SECOND_MARK, TICK = 0, 1, 2, 3, 4", "TICK, SECOND_MARK = 0, 1, 2, 3, 4"),
+    ("python", '27: "a slot is already sending"', '27: "no slot is sending"'),
+    ("python", "STATE, TOTALS, POWERS, OUTPUT = 8, 784,", "STATE, TOTALS, POWERS, OUTPUT = 9, 784,"),
+]
+
+# Each inline function, wrong; the program tests/interface.c finds it.
+WRONG_INLINE = [
+    ("return answer < DFB_REFUSED_8 ? 0u : answer - DFB_REFUSED_8;", "return answer <= DFB_REFUSED_8 ? 0u : answer - 0xF0u;"),
+    ("(answer & 0x800F0000u) == DFB_REFUSED_16", "answer >= DFB_REFUSED_16"),
+    ("(answer & 0x800F0000u) == DFB_REFUSED_16", "answer - DFB_REFUSED_16 < 100u"),
+    ("? 0u : (unsigned)(answer & 0xFFu)", "? 0u : (unsigned)(answer & 0x1Fu)"),
+    ("(answer & ~DFB_REFUSED_63) >> 8", "answer >> 8"),
+    ("answer < DFB_REPORTED ? 0u", "answer < DFB_REFUSED_16 ? 0u"),
+    ("(unsigned)(answer >> 20)", "(unsigned)(answer >> 16)"),
+    ("(unsigned)(answer & 0xFFFFu);\n}\n\n/* The number of slots", "(unsigned)(answer & 0xFFu);\n}\n\n/* The number of slots"),
+    ("(unsigned)(answer >> 16 & 0xFFFFu)", "(unsigned)(answer >> 16 & 0xFFFu)"),
+    ("dfb_interval_first(uint64_t answer)\n{\n    return (unsigned)(answer & 0xFFFFu);",
+     "dfb_interval_first(uint64_t answer)\n{\n    return (unsigned)(answer & 0xFFFu);"),
+    ("case DFB_REFUSAL_ALREADY_SENDING: return \"a slot is already sending\";\n", ""),
+    ("sizeof(answer) == 2 ? dfb_refusal_u16", "sizeof(answer) == 1 ? dfb_refusal_u16"),
+    ("case DFB_APID_V_B1: return DFB_WORDS_V_B1;", "case DFB_APID_V_B1: return DFB_WORDS_V_SVY;"),
+    ("case DFB_KIND_SECOND_MARK: return 5;", "case DFB_KIND_SECOND_MARK: return 4;"),
+    ("6 * log_len + 64", "6 * log_len + 63"),
+    ("? 64 : 6", "? 63 : 6"),
+    ("case 1: return 64;", "case 1: return 63;"),
+]
+
+
+class Declarations(unittest.TestCase):
+    def test_all_agree(self):
+        self.assertEqual(differences(sources()), [])
+
+    def test_every_function_is_found(self):
+        """The parsers see each function of the library, and each of its parameters."""
+        functions = rattle_functions(sources())
+        exports = [line for crate in sources().values() for line in crate.splitlines() if line == "#[no_mangle]"]
+        self.assertEqual(len(functions), len(exports))
+        self.assertEqual(functions["dfb_tick"], ("u32", [
+            ("*mut u16", "state"), ("usize", "state_len"), ("*mut u64", "totals"), ("usize", "totals_len"),
+            ("*const u32", "powers"), ("usize", "powers_len"), ("*mut u8", "out"), ("usize", "out_len")]))
+
+    def test_wrong_edits_are_found(self):
+        for name, old, new in WRONG_EDITS:
+            with self.subTest(name=name, old=old, new=new):
+                texts = sources()
+                self.assertEqual(texts[name].count(old), 1)
+                texts[name] = texts[name].replace(old, new)
+                self.assertNotEqual(differences(texts), [])
+
+
+class Inline(unittest.TestCase):
+    def test_wrong_inline_functions_are_found(self):
+        compiler = shutil.which("cc")
+        if compiler is None:
+            self.skipTest("cc is not there")
+        for old, new in WRONG_INLINE:
+            with self.subTest(old=old, new=new), tempfile.TemporaryDirectory() as folder:
+                header, program = read("include", "dfb.h"), os.path.join(folder, "program")
+                self.assertEqual(header.count(old), 1)
+                with open(os.path.join(folder, "dfb.h"), "w", encoding="utf8") as file:
+                    file.write(header.replace(old, new))
+                built = build(compiler, C99, os.path.join(TOP, "tests", "interface.c"), program, include=folder)
+                self.assertEqual((built.returncode, built.stderr), (0, ""))
+                self.assertNotEqual(run(program).returncode, 0)
+
+
+if __name__ == "__main__":
+    unittest.main()

@@ -1,0 +1,194 @@
+"""Tests of the Python module, dist/dfb.py over libdfb.so."""
+import os
+import subprocess
+import sys
+import unittest
+
+from c_program import DIST
+
+os.environ.pop("DFB_LIB", None)
+sys.path.insert(0, DIST)
+
+import dfb  # noqa: E402
+
+EXAMPLE = """\
+stored 0x1120
+reported 18 words
+band 0 starts at 0 Hz, has its centre at 4 Hz and is 8 Hz wide
+DFB LOG 1
+C 30 1120
+T
+T
+P 1 00 36%s
+END 21
+refusal 1: the command ID is outside 0x30 to 0x36
+""" % (36 * " 8")
+
+
+class Python(unittest.TestCase):
+    def refused(self, number, function, *arguments):
+        with self.assertRaises(dfb.Refused) as caught:
+            function(*arguments)
+        self.assertEqual(caught.exception.number, number)
+
+    def test_example(self):
+        done = subprocess.run([sys.executable, os.path.join(DIST, "dfb.py")], capture_output=True, check=True)
+        self.assertEqual(done.stdout.decode(), EXAMPLE)
+
+    def test_board(self):
+        board = dfb.Board()
+        self.assertEqual(board.tick([0] * dfb.POWERS), "idle")
+        self.assertEqual(board.command(0x30, 0xFFFF), 0x6363)
+        self.assertEqual(board.read(0x30), 0x6363)
+        self.assertEqual(board.command(0x30, 0x1020), 0x1020)
+        self.assertEqual(board.tick([9] * dfb.POWERS), bytes([0x4E, 0x0C, 0x0C]) * 18)
+        self.assertEqual(board.tick([9] * dfb.POWERS), "waiting")
+        self.assertEqual(board.command(0x30, 0x1120), 0x1120)
+        self.assertEqual(board.tick([9] * dfb.POWERS), "collected")
+        for number in range(7):
+            board.command(0x30 + number, 0x00A0)
+        self.assertEqual(board.tick([9] * dfb.POWERS), bytes([0x4E, 0x0C, 0x0C]) * 392)
+        self.refused(2, board.tick, [0])
+        self.refused(1, board.read, 0x37)
+        board.state[7] = 9
+        self.refused(3, board.command, 0x30, 0)
+
+    def test_sets(self):
+        samples = [1, -1, -32768]
+        self.assertEqual(dfb.pack(0x43, samples), bytes.fromhex("430001 43FFFF 438000"))
+        self.assertEqual(dfb.unpack(0x43, dfb.pack(0x43, samples)), samples)
+        self.refused(4, dfb.pack, 0x4E, samples)
+        self.refused(2, dfb.pack, 0x44, samples)
+        self.refused(5, dfb.unpack, 0x43, bytes.fromhex("430001 44FFFF 438000"))
+
+    def test_log(self):
+        log = bytearray(5)
+        self.assertEqual(dfb.append(log, 0, dfb.TICK), 1)
+        self.assertEqual(dfb.append(log, 1, dfb.WORD, 0x43, 0xABCD), 5)
+        self.assertEqual(log, bytes.fromhex("04 0243ABCD"))
+        self.refused(2, dfb.append, log, 5, dfb.TICK)
+        self.refused(9, dfb.append, log, 0, 5)
+        self.assertEqual(dfb.append(bytearray(4), 0, dfb.COMMAND, 0x30), 4)
+        written = bytearray(b"\xFF" * 5)
+        self.assertEqual((dfb.append(written, 0, dfb.COMMAND, 0x30), written), (4, bytes.fromhex("01300000FF")))
+        try:
+            dfb.append(log, 5, dfb.TICK)
+        except dfb.Refused as refused:
+            kept = refused  # its traceback holds no part of the log
+        log += b"\x04"
+        self.assertEqual(kept.number, 2)
+        self.assertEqual(dfb.listing(log), "DFB LOG 1\nT\nBAD 5 5\n")
+        self.assertEqual(dfb.listing(b""), "DFB LOG 1\nEND 0\n")
+
+    def test_records(self):
+        log = bytes.fromhex("013000E3 02430001 0389ABCDEF 04")
+        expected = [(0, dfb.COMMAND, 0x30, 0xE3), (4, dfb.WORD, 0x43, 1), (8, dfb.SECOND_MARK, 0, 0x89ABCDEF), (13, dfb.TICK, 0, 0)]
+        self.assertEqual(list(dfb.records(log)), expected)
+        self.assertEqual(dfb.read_record(log, 4), (8, dfb.WORD, 0x43, 1))
+        self.assertEqual(dfb.read_record(log, 14), (14, dfb.END, 0, 0))
+        self.assertEqual(dfb.read_record(b"\x04" * 70000, 69999), (70000, dfb.TICK, 0, 0))
+        self.assertEqual(list(dfb.records(b"")), [])
+        written, used = bytearray(len(log)), 0
+        for _, kind, a, b in expected:
+            used = dfb.append(written, used, kind, a, b)
+        self.assertEqual(written, log)
+        self.refused(2, dfb.read_record, log, 15)
+        self.refused(9, dfb.read_record, log, 2)
+        self.refused(10, dfb.read_record, log[:3], 0)
+        self.refused(10, list, dfb.records(log[:12]))
+        self.refused(1, dfb.read_record, b"\x01\x37\0\0", 0)
+        self.refused(4, dfb.read_record, b"\x02\x42\0\0", 0)
+
+    def test_cadence(self):
+        values = [dfb.cadence_of(choice) for choice in range(11)]
+        self.assertEqual(values[:4], [("rate", 8.0), ("rate", 4.0), ("rate", 2.0), ("rate", 1.0)])
+        self.assertEqual(values[4:], [("period", 2.0**n) for n in range(1, 8)])
+        self.refused(12, dfb.cadence_of, 11)
+
+    def test_refusals(self):
+        with self.assertRaises(dfb.Refused) as caught:
+            dfb.BurstSlots(1).choose()
+        self.assertEqual(str(caught.exception), "refusal 26: nothing is held to send, or no criterion is above 0")
+
+    def test_codes_and_bands(self):
+        self.assertEqual((dfb.compress_band(15), dfb.expand_band(0x0F)), (0x0F, 14))
+        self.assertEqual((dfb.compress_sum(2**64 - 1), dfb.expand_sum(0xFC01)), (0xDBFF, 2**63))
+        self.assertEqual((dfb.band_of(0, 512), dfb.describe_band(2, 111)), (32, (7936.0, 8064.0, 256.0)))
+        self.refused(7, dfb.expand_band, 0x08)
+        self.refused(8, dfb.expand_sum, 0xFC02)
+        self.refused(12, dfb.band_of, 3, 0)
+        self.refused(12, dfb.describe_band, 0, 36)
+
+    def test_bursts(self):
+        slots = dfb.BurstSlots(2)
+        self.refused(26, slots.choose)
+        self.refused(28, slots.finish)
+        self.assertEqual([slots.offer(criterion) for criterion in (5, 9, 7, 7)], [(0, 1), (1, 2), (0, 2), (None, 2)])
+        self.assertEqual((list(slots.status), list(slots.criteria)), ([dfb.HELD, dfb.HELD], [7, 9]))
+        self.assertEqual(slots.choose(), 1)
+        self.refused(27, slots.choose)
+        self.assertEqual((list(slots.status), list(slots.criteria)), ([dfb.HELD, dfb.SENDING], [7, 0]))
+        self.assertEqual((slots.finish(), list(slots.status)), (1, [dfb.HELD, dfb.FREE]))
+        many = dfb.BurstSlots(32)
+        self.assertEqual([many.offer(1) for _ in range(33)], [(slot, slot + 1) for slot in range(32)] + [(None, 32)])
+        slots.status[0] = 3
+        self.refused(3, slots.offer, 1)
+        self.refused(3, dfb.BurstSlots(33).choose)
+
+    def test_interval(self):
+        self.assertEqual(dfb.choose_interval([1, 5, 9, 9, 2], 4, 10), (1, 3))
+        self.assertEqual(dfb.choose_interval([1, 5, 9, 9, 2], 4, 2), (1, 2))
+        self.assertEqual(dfb.choose_interval([2**32 - 1] * 3, 2**32 - 1, 2**32 - 1), (0, 2))
+        self.assertEqual(dfb.choose_interval([0] * 15998 + [5, 5], 0, 9), (15998, 15999))
+        self.refused(2, dfb.choose_interval, [1] * 16001, 0, 1)
+        self.refused(29, dfb.choose_interval, [1], 0, 0)
+        self.refused(26, dfb.choose_interval, [0, 0], 0, 1)
+
+    def test_numbers_that_do_not_fit(self):
+        board = dfb.Board()
+        for function, arguments in (
+            (board.command, (0x130, 0)),
+            (board.command, (0x30, 0x10000)),
+            (board.command, (0x30, -1)),
+            (board.read, (0x130,)),
+            (dfb.pack, (0x143, [0, 0, 0])),
+            (dfb.append, (bytearray(9), 0, 0x104)),
+            (dfb.append, (bytearray(9), 0, 1, 0x130)),
+            (dfb.append, (bytearray(9), -1, 4)),
+            (dfb.band_of, (256, 0)),
+            (dfb.band_of, (0, 0x10000)),
+            (dfb.describe_band, (256, 0)),
+            (dfb.describe_band, (0, 256)),
+            (dfb.expand_band, (0x10F,)),
+            (dfb.unpack, (0x143, bytes(9))),
+            (dfb.choose_interval, ([1], 2**32, 1)),
+            (board.tick, ([2**32] * dfb.POWERS,)),
+            (dfb.pack, (0x43, [0, 0, 32768])),
+            (dfb.unpack, (0x43, [256] * 9)),
+            (dfb.append, (bytearray(9), 0, 4, 0, 2**32)),
+            (dfb.read_record, (b"", -1)),
+            (dfb.cadence_of, (256,)),
+            (dfb.compress_band, (2**32,)),
+            (dfb.compress_sum, (2**64,)),
+            (dfb.expand_sum, (0x10000,)),
+            (dfb.BurstSlots(1).offer, (2**32,)),
+            (dfb.choose_interval, ([2**32], 0, 1)),
+            (dfb.choose_interval, ([1], 0, 2**32)),
+        ):
+            self.assertRaises(OverflowError, function, *arguments)
+        self.assertEqual(bytes(board.state), bytes(16))
+
+
+class Library(unittest.TestCase):
+    def test_folder_by_name(self):
+        """DFB_LIB names the library's folder, and no other is looked at."""
+        script = "import dfb; print(dfb._library._name)"
+        named = {"PYTHONPATH": DIST, "DFB_LIB": os.path.join(DIST, "..", "dist"), "PYTHONDONTWRITEBYTECODE": "1"}
+        done = subprocess.run([sys.executable, "-c", script], env=named, capture_output=True, encoding="utf8")
+        self.assertEqual(done.stdout.strip(), os.path.join(DIST, "..", "dist", "libdfb.so"))
+        done = subprocess.run([sys.executable, "-c", script], env={**named, "DFB_LIB": "/none"}, capture_output=True, encoding="utf8")
+        self.assertIn("ImportError: libdfb.so is not in /none", done.stderr)
+
+
+if __name__ == "__main__":
+    unittest.main()
