@@ -27,9 +27,9 @@
 #include <stdint.h>
 
 /* The minor number rises with every function that is added or changed; the soname of libdfb.so is libdfb.so.MAJOR. */
-#define DFB_VERSION "0.2.0"
+#define DFB_VERSION "0.3.0"
 #define DFB_VERSION_MAJOR 0
-#define DFB_VERSION_MINOR 2
+#define DFB_VERSION_MINOR 3
 #define DFB_VERSION_PATCH 0
 
 #ifdef __cplusplus
@@ -176,12 +176,12 @@ enum dfb_apid {
 
 /* The words of a waveform set; a word is one sample, and three bytes. */
 enum dfb_words {
-    DFB_WORDS_E_SVY = 3,
-    DFB_WORDS_V_SVY = 7,
-    DFB_WORDS_MAG_SVY = 3,
-    DFB_WORDS_E_B1 = 3,
-    DFB_WORDS_V_B1 = 6,
-    DFB_WORDS_SCM_B1 = 3
+    DFB_WORDS_E_SVY = 3, /* E12S, E34S, E56S */
+    DFB_WORDS_V_SVY = 7, /* V1S to V6S, VDC_AVG */
+    DFB_WORDS_MAG_SVY = 3, /* MAGU, MAGV, MAGW */
+    DFB_WORDS_E_B1 = 3, /* E12B1, E34B1, E56B1 */
+    DFB_WORDS_V_B1 = 7, /* V1B1 to V6B1, VDC_AVG */
+    DFB_WORDS_SCM_B1 = 3 /* SCMU_B1, SCMV_B1, SCMW_B1 */
 };
 
 /* No waveform set has more words. */

@@ -8,7 +8,7 @@ import array
 import ctypes
 import os
 
-__version__ = "0.2.0"
+__version__ = "0.3.0"
 
 STATE, TOTALS, POWERS, OUTPUT = 8, 784, 7168, 1176
 RECORD, MOST_WORDS = 3, 7

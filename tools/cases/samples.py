@@ -111,7 +111,7 @@ def bursts():
         for t in range(8):
             board.tick(8 * second + t)
         board.samples(0x46, [-1, 0, 1])
-        board.samples(0x47, [100 * second, 200, 300, -400, -500, -32768])
+        board.samples(0x47, [100 * second, 200, 300, -400, -500, -32768, 25 * second + 25])
         board.samples(0x48, [32767, 17, -17])
     return board
 

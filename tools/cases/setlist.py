@@ -27,6 +27,8 @@ def by_place(band):
 LARGEST = 0xEF
 TICK = h("04")
 E_SVY = h("02430001 0243FFFF 02438000")
+SIX_OF_V_B1 = h("02470001 02470002 02470003 02470004 02470005 02470006")
+V_B1 = SIX_OF_V_B1 + h("02478007")
 SEVEN = b"".join(h("01%02X0020" % (0x30 + n)) for n in range(1, 7))
 
 # A heading, and the logs under it.
@@ -37,7 +39,8 @@ CASES = [
         E_SVY
         + h("02440001 02440002 02440003 02440004 02440005 02440006 0244FFF9")
         + h("02450000 02458000 02457FFF 0246000A 0246000B 0246FFF6")
-        + h("02470001 02470002 02470003 02470004 02470005 02470006 02480009 02480063 024803E7")
+        + V_B1
+        + h("02480009 02480063 024803E7")
     ]),
     ("second marks: 0, 9, 10, 4294967295", [h("0300000000 0300000009 030000000A 03FFFFFFFF")]),
     ("the register rules: 0xFFFF and 0xAB16 to 0x30, 0xFFFF to 0x31 and 0x36, 0x0017 and 0x0018 to 0x30",
@@ -46,6 +49,10 @@ CASES = [
     ("4: APIDs 0x42, 0x49, 0x4D and 0x4F", [h("02420000"), h("02490000"), h("024D0000"), h("04 024F0000")]),
     ("5: a set ended by the log's end, a tick, a second mark, a command, a word of another APID",
      [h("02430001 02430002"), h("02430001 04"), h("02430001 0300000000"), h("02430001 01300000"), h("02430001 02440001")]),
+    # one set: a tick or another set's word cuts in, or the log ends; two sets: the second's words complete the first, and what follows them
+    # is at fault; seven sets are read as six of seven words
+    ("V_B1 sets of six words: 5, and END for seven sets",
+     [SIX_OF_V_B1 + TICK, TICK + SIX_OF_V_B1 + E_SVY, SIX_OF_V_B1, 2 * SIX_OF_V_B1 + TICK, 2 * SIX_OF_V_B1, 7 * SIX_OF_V_B1 + TICK]),
     ("6", [h("024E0000")]),
     ("7: either byte, in the first word and in a later one",
      [h("01300020 024E0800"), h("01300020 024E0008"), h("01300020") + spec(3, by_place) + h("024E00F4")]),

@@ -13,14 +13,14 @@ abbrev pub setWordsOutcome : SetWords → Outcome ℕ
 setWordsOutcome (SetWords.Count n) = given n
 setWordsOutcome (SetWords.Refused r) = refused (numberOf r)
 
--- the words of a set, by its waveform APID: E_SVY, V_SVY, MAG_SVY, E_B1, V_B1, SCM_B1; refused by 4 for any other, 0x4E too
+-- the words of a set, by its waveform APID: E_SVY, V_SVY, MAG_SVY, E_B1, V_B1 (7, as 02, ticket 2, says), SCM_B1; refused by 4 for any other, 0x4E too
 unfoldable pub setSize : ℕ → Outcome ℕ
 setSize apid =
     cond (eqb apid 0x43) (given 3)
     (cond (eqb apid 0x44) (given 7)
     (cond (eqb apid 0x45) (given 3)
     (cond (eqb apid 0x46) (given 3)
-    (cond (eqb apid 0x47) (given 6)
+    (cond (eqb apid 0x47) (given 7)
     (cond (eqb apid 0x48) (given 3)
     (refused 4))))))
 

@@ -41,7 +41,7 @@ pub fn set_words(apid: u8) -> SetWords
         0x44 => SetWords::Count(7),
         0x45 => SetWords::Count(3),
         0x46 => SetWords::Count(3),
-        0x47 => SetWords::Count(6),
+        0x47 => SetWords::Count(7),
         0x48 => SetWords::Count(3),
         _ => SetWords::Refused(Refusal::UnknownApid),
     }

@@ -1,4 +1,4 @@
-//! Differential tests: the proved library against a model written from paper 01. Every call compares the answer, the state and every
+//! Differential tests: the proved library against a model written from the papers. Every call compares the answer, the state and every
 //! element of every buffer, margins too. DFB_TIMES=10 makes ten times as many random cases.
 mod board;
 mod bursts;

@@ -76,6 +76,30 @@ fn two_spectra() {
     }
 }
 
+/// Ticket 2: V_B1 has V1B1 to V6B1 and then VDC_AVG; a log made with six words may end in refusal 5.
+#[test]
+fn seven_words_in_v_b1() {
+    let samples = [1, 2, 3, 4, 5, 6, -7];
+    let mut bytes = [0; 21];
+    assert_eq!(dfb::pack(0x47, &samples, &mut bytes), Ok(21));
+    assert_eq!(bytes[15..], [0x47, 0x00, 0x06, 0x47, 0xFF, 0xF9]);
+    assert_eq!(dfb::pack(0x47, &samples[..6], &mut bytes), Err(dfb::Refusal::WrongLength));
+    let mut unpacked = [0; 7];
+    assert_eq!(dfb::unpack(0x47, &bytes, &mut unpacked), Ok(7));
+    assert_eq!(unpacked, samples);
+    assert_eq!(dfb::unpack(0x47, &bytes[..18], &mut unpacked), Err(dfb::Refusal::WrongLength));
+
+    let six: Vec<u8> = (1..=6).flat_map(|sample| [2, 0x47, 0, sample]).collect();
+    let listed = |log: Vec<u8>| {
+        let mut out = [0; 2000];
+        let count = dfb::listing(&log, &mut out).unwrap();
+        String::from_utf8(out[..count].to_vec()).unwrap()
+    };
+    assert_eq!(listed([&six[..], &[4]].concat()), "DFB LOG 1\nBAD 5 24\n");
+    assert_eq!(listed(six.clone()), "DFB LOG 1\nBAD 5 24\n");
+    assert_eq!(listed([&six[..], &six, &[4]].concat()), "DFB LOG 1\nW 47 1 2 3 4 5 6 1\nBAD 5 48\n");
+}
+
 #[test]
 fn whole_case() {
     let log = b"\x01\x30\x00\xE3\x02\x43\x00\x01\x02\x43\xFF\xFF\x02\x43\x80\x00\x03\x00\x00\x00\x07\x04";
