@@ -27,9 +27,9 @@
 #include <stdint.h>
 
 /* The minor number rises with every function that is added or changed; the soname of libdfb.so is libdfb.so.MAJOR. */
-#define DFB_VERSION "0.3.0"
+#define DFB_VERSION "0.4.0"
 #define DFB_VERSION_MAJOR 0
-#define DFB_VERSION_MINOR 3
+#define DFB_VERSION_MINOR 4
 #define DFB_VERSION_PATCH 0
 
 #ifdef __cplusplus
@@ -38,6 +38,7 @@ extern "C" {
 
 /* ---- refusals ---- */
 
+/* 13 is not used. */
 enum dfb_refusal_number {
     DFB_REFUSAL_UNKNOWN_COMMAND = 1,       /* the command ID is outside 0x30 to 0x36 */
     DFB_REFUSAL_WRONG_LENGTH = 2,          /* a list has a wrong length, an output is too small, or a place or number does not fit */
@@ -51,7 +52,6 @@ enum dfb_refusal_number {
     DFB_REFUSAL_TRUNCATED_BODY = 10,       /* the log ends within a record */
     DFB_REFUSAL_INPUT_TOO_LONG = 11,       /* the log is over 65,536 bytes */
     DFB_REFUSAL_OUT_OF_RANGE = 12,         /* a bin setting, band, FFT bin or NCAD choice is out of range */
-    DFB_REFUSAL_MEAN_OVERFLOW = 13,        /* a band mean is over 2^32 - 1 */
     DFB_REFUSAL_TURNED_AWAY = 25,          /* no slot is free and no held slot has a smaller criterion */
     DFB_REFUSAL_NOTHING_TO_SEND = 26,      /* nothing is held to send, or no criterion is above 0 */
     DFB_REFUSAL_ALREADY_SENDING = 27,      /* a slot is already sending */
@@ -75,7 +75,6 @@ static inline const char *dfb_meaning(unsigned refusal)
     case DFB_REFUSAL_TRUNCATED_BODY: return "the log ends within a record";
     case DFB_REFUSAL_INPUT_TOO_LONG: return "the log is over 65,536 bytes";
     case DFB_REFUSAL_OUT_OF_RANGE: return "a bin setting, band, FFT bin or NCAD choice is out of range";
-    case DFB_REFUSAL_MEAN_OVERFLOW: return "a band mean is over 2^32 - 1";
     case DFB_REFUSAL_TURNED_AWAY: return "no slot is free and no held slot has a smaller criterion";
     case DFB_REFUSAL_NOTHING_TO_SEND: return "nothing is held to send, or no criterion is above 0";
     case DFB_REFUSAL_ALREADY_SENDING: return "a slot is already sending";
@@ -151,8 +150,7 @@ uint32_t dfb_read(const uint16_t *state, size_t state_len, uint8_t id);
 #define DFB_WAITING 2u
 #define DFB_REPORTED 0x20000u
 
-/* One tick with 7 rows of 1,024 powers, or refusal 2, 3, 13. A report writes 3 bytes for each word from the start of out. 13 never comes:
- * it is proved that no mean from a sound state is that large. */
+/* One tick with 7 rows of 1,024 powers, or refusal 2, 3. A report writes 3 bytes for each word from the start of out. */
 uint32_t dfb_tick(uint16_t *state, size_t state_len, uint64_t *totals, size_t totals_len, const uint32_t *powers, size_t powers_len,
                   uint8_t *out, size_t out_len);
 

@@ -8,7 +8,7 @@ import array
 import ctypes
 import os
 
-__version__ = "0.3.0"
+__version__ = "0.4.0"
 
 STATE, TOTALS, POWERS, OUTPUT = 8, 784, 7168, 1176
 RECORD, MOST_WORDS = 3, 7
@@ -28,7 +28,6 @@ MEANINGS = {
     10: "the log ends within a record",
     11: "the log is over 65,536 bytes",
     12: "a bin setting, band, FFT bin or NCAD choice is out of range",
-    13: "a band mean is over 2^32 - 1",
     25: "no slot is free and no held slot has a smaller criterion",
     26: "nothing is held to send, or no criterion is above 0",
     27: "a slot is already sending",

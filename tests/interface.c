@@ -1,5 +1,5 @@
-/* Calls every function of dfb.h with every refusal of its row (but 13, which never comes), with outputs longer than needed and with empty
- * lists, and takes every kind of answer apart by the header's inline functions. Expected numbers are from papers 01 and 02.
+/* Calls every function of dfb.h with every refusal of its row, with outputs longer than needed and with empty lists, and takes every kind of
+ * answer apart by the header's inline functions. Expected numbers are from papers 01 and 02.
  *
  * C99 and C++17. Each list ends where its memory ends: the page behind it cannot be touched. */
 #define _DEFAULT_SOURCE
@@ -552,7 +552,7 @@ static void test_interval(void)
 
 static void test_meanings(void)
 {
-    static const uint8_t numbers[] = {1, 2, 3, 4, 5, 6, 7, 8, 9, 10, 11, 12, 13, 25, 26, 27, 28, 29};
+    static const uint8_t numbers[] = {1, 2, 3, 4, 5, 6, 7, 8, 9, 10, 11, 12, 25, 26, 27, 28, 29};
     size_t found = 0;
     for (unsigned n = 0; n < 0x20000; n++) {
         int is_refusal = found < sizeof numbers && numbers[found] == n;

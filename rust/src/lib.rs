@@ -24,7 +24,7 @@ pub const POWERS: usize = 7168;
 /// The least length of a tick's output.
 pub const OUTPUT: usize = 1176;
 
-/// A refusal, with its number in the rules.
+/// A refusal, with its number in the rules. 13 is not used.
 #[derive(Clone, Copy, Debug, PartialEq, Eq)]
 #[repr(u8)]
 pub enum Refusal {
@@ -40,7 +40,6 @@ pub enum Refusal {
     TruncatedBody = 10,
     InputTooLong = 11,
     OutOfRange = 12,
-    MeanOverflow = 13,
     TurnedAway = 25,
     NothingToSend = 26,
     AlreadySending = 27,
@@ -69,7 +68,6 @@ impl Refusal {
             Refusal::TruncatedBody => "the log ends within a record",
             Refusal::InputTooLong => "the log is over 65,536 bytes",
             Refusal::OutOfRange => "a bin setting, band, FFT bin or NCAD choice is out of range",
-            Refusal::MeanOverflow => "a band mean is over 2^32 - 1",
             Refusal::TurnedAway => "no slot is free and no held slot has a smaller criterion",
             Refusal::NothingToSend => "nothing is held to send, or no criterion is above 0",
             Refusal::AlreadySending => "a slot is already sending",
@@ -92,7 +90,6 @@ impl Refusal {
             10 => Refusal::TruncatedBody,
             11 => Refusal::InputTooLong,
             12 => Refusal::OutOfRange,
-            13 => Refusal::MeanOverflow,
             25 => Refusal::TurnedAway,
             26 => Refusal::NothingToSend,
             27 => Refusal::AlreadySending,
@@ -236,7 +233,7 @@ pub fn read(state: &[u16], id: u8) -> Result<u16, Refusal> {
     answer(number.into(), REFUSED_16).map(|value| value as u16)
 }
 
-/// One tick with 7 rows of 1,024 powers; a report is written at the start of `out`. Refusals 2, 3, 13.
+/// One tick with 7 rows of 1,024 powers; a report is written at the start of `out`. Refusals 2, 3.
 pub fn tick(state: &mut [u16], totals: &mut [u64], powers: &[u32], out: &mut [u8]) -> Result<Tick, Refusal> {
     // SAFETY: as in command.
     let number = unsafe {

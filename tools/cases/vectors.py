@@ -44,6 +44,9 @@ def board():
     yield from (*tick(COLLECTED, 8), *tick(REPORTED + 18, 0), *first_word(0x4E, 0x0C, 8), *tick(WAITING, 0))
     # powers 0 and 1: a mean of 0.5, which prints as 0
     yield from (*tick(COLLECTED, 0), *tick(REPORTED + 18, 0), *first_word(0x4E, 0x00, 0), *tick(WAITING, 0))
+    # 4294967295 twice: the largest mean, which prints as 3758096384
+    largest = 4294967295
+    yield from (*tick(COLLECTED, largest), *tick(REPORTED + 18, 0), *first_word(0x4E, 0xEF, 3758096384), *tick(WAITING, 0))
     # no report yet: an output of zeros
     yield from (*tick(COLLECTED, 8), *tick(COLLECTED, 19), *first_word(0, 0, 0), *tick(COLLECTED, 30))
 

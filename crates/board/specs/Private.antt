@@ -9,7 +9,7 @@ use Rattle.refusal.specs.Outcome.{Outcome, given}
 use Rattle.refusal.specs.Outcome as outcome
 use Rattle.model.specs.Reply.{Reply, refused, reported}
 use Rattle.model.specs.Totals.{added}
-use Rattle.model.specs.Board.{stateSound, TickOutcome, reportOutcome, runningOutcome}
+use Rattle.model.specs.Board.{stateSound, TickOutcome, tickReported, runningOutcome}
 use Rattle.model.specs.declared.State.{State}
 
 -- the lists have their lengths, and the state is sound and running
@@ -22,7 +22,7 @@ pub record Ticking (s : State) (totals powers out : List ℕ) : Type 0 where
 
 -- the tick with the powers handed in, whose sums are the totals with them added: at phase N - 1, and at any phase
 abbrev pub reportingTick : State → List ℕ → List ℕ → List ℕ → TickOutcome
-reportingTick s totals powers out = reportOutcome s totals (added (s .registers) totals powers) out
+reportingTick s totals powers out = tickReported s (added (s .registers) totals powers) out
 
 abbrev pub runningTick : State → List ℕ → List ℕ → List ℕ → TickOutcome
 runningTick s totals powers out = runningOutcome s totals (added (s .registers) totals powers) out

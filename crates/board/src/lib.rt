@@ -149,14 +149,6 @@ fn next_phase(phase: u16, period: u16) -> u16
     if phase == period - 1 { 0 } else { phase + 1 }
 }
 
-// Refusal 13 does not come: no total is over N W (2^32 - 1), the most that N spectra give.
-fn means_fit(registers: Registers, totals: &[u64]) -> bool
-    requires { ⌜ length (now totals) ≡ 784 ⌝ }
-    ensures { λ r. ⌜ r ≡ totalsWithin registers (averagedSpectra registers) (now (totals .entry)) ⌝ }
-{
-    are_within(registers, totals, settings::averaged_spectra(registers))
-}
-
 // The report and the state after it.
 fn reported_tick(words: WordCount, state: State, next: State) -> Ticked
     ensures { λ r. ⌜ (tickReply (r .answer) ≡ reportReply (wordCountOutcome words)) × (r .state ≡ reportState (wordCountOutcome words) state next) ⌝ }
@@ -171,7 +163,7 @@ fn reported_tick(words: WordCount, state: State, next: State) -> Ticked
     }
 }
 
-// A tick at phase N - 1, with the state after it. Refused by 13, which no sound state comes to: the totals have the powers added by then.
+// A tick at phase N - 1, with the state after it. No mean is over 2^32 - 1 (model's MeansWithin), so the words are those of the totals.
 fn reporting_tick(
     state: State,
     next: State,
@@ -186,9 +178,6 @@ fn reporting_tick(
 {
     let registers = state.registers;
     add_spectrum(registers, totals, powers);
-    if !means_fit(registers, totals) {
-        return refused_tick(state, Refusal::MeanOverflow);
-    }
     let words = write_report(registers, totals, out);
     clear(totals);
     reported_tick(words, state, next)
@@ -240,7 +229,7 @@ fn are_lengths(powers: usize, totals: usize, out: usize) -> bool
     (powers == State::POWERS) & (totals == State::TOTALS) & (State::OUTPUT <= out)
 }
 
-// A tick with 7 rows of 1,024 powers. Refused by 2, 3, then 13.
+// A tick with 7 rows of 1,024 powers. Refused by 2, then 3.
 pub fn tick(state: State, totals: &mut [u64], powers: &[u32], out: &mut [u8]) -> Ticked
     ensures { λ r. ⌜ tickedOutcome r (now (totals .exit)) (now (out .exit)) ≡ tickOutcome state (now (totals .entry)) (now (powers .entry)) (now (out .entry)) ⌝ }
 {

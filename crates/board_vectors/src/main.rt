@@ -107,6 +107,8 @@ fn main() {
     // N = 2, C = 4: a report at the second tick.
     show_mean(0x2120, 8, 11);
     show_mean(0x2120, 0, 1);
+    // The largest powers: a report meets no larger mean.
+    show_mean(0x2120, 4_294_967_295, 4_294_967_295);
     // N = C = 4: the total of both ticks is still held.
     show_mean(0x2220, 8, 11);
 }

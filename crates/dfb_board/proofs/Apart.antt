@@ -20,9 +20,8 @@ use Rattle.settings.proofs.Settings.{enabled-le}
 use Rattle.registers.proofs.Theorems.{sound-at}
 use Rattle.model.specs.declared.State.{State}
 use Rattle.model.specs.Reply.{Reply, refused, stores, reported}
-use Rattle.model.specs.Totals.{added, slot}
-use Rattle.model.specs.Report.{meansWithin}
-use Rattle.model.specs.Board.{stateSound, CommandOutcome, commandOutcome, TickOutcome, reportOutcome, runningOutcome, lengthsFit, tickOutcome}
+use Rattle.model.specs.Totals.{added}
+use Rattle.model.specs.Board.{stateSound, CommandOutcome, commandOutcome, TickOutcome, runningOutcome, lengthsFit, tickOutcome}
 use Rattle.refusal.specs.Outcome.{isGiven}
 use Rattle.dfb_refusals.specs.Numbers.{above16, outcomeNumber, ToldApart}
 use Rattle.dfb_refusals.proofs.Apart.{Below, given-below, refused-below, told-apart}
@@ -76,17 +75,12 @@ words-most r =
     let half : bandsOf r / 2 ≤ 56 = omega (arith, bands-count (settingOf r) .at-most) in
     le-trans (mul-le-mul-left {m = bandsOf r / 2} {n = 56} (enabledCount r) half) (omega (arith, enabled-le r))
 
-report-outcome : (s : State) (totals sums out : List ℕ) → Ticks (reportOutcome s totals sums out)
-unfolding reportOutcome
-report-outcome s totals sums out =
-    cond-at Ticks (not (meansWithin (s .registers) (slot sums))) (λ _. record { refused = refl; reported = refl })
-    (λ _. report-apart (specWords (s .registers)) (words-most (s .registers)))
-
 running-outcome : (s : State) (totals sums out : List ℕ) → Ticks (runningOutcome s totals sums out)
 unfolding runningOutcome
 running-outcome s totals sums out =
     cond-at Ticks (ltb (s .phase) (averagedSpectra (s .registers) - 1)) (λ _. record { refused = refl; reported = refl })
-    (λ _. cond-at Ticks (eqb (s .phase) (averagedSpectra (s .registers) - 1)) (λ _. report-outcome s totals sums out)
+    (λ _. cond-at Ticks (eqb (s .phase) (averagedSpectra (s .registers) - 1))
+    (λ _. report-apart (specWords (s .registers)) (words-most (s .registers)))
     (λ _. record { refused = refl; reported = refl }))
 
 tick-apart : (s : State) (totals powers out : List ℕ) → RepliesApart (tickOutcome s totals powers out .answer)

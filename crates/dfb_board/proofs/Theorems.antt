@@ -11,9 +11,8 @@ use Rattle.registers.specs.Access.{isId}
 use Rattle.settings.specs.Settings.{averagedSpectra, runningOf}
 use Rattle.model.specs.declared.State.{State}
 use Rattle.model.specs.Reply.{Reply, refused, idle, collected, waiting}
-use Rattle.model.specs.Totals.{added, slot}
-use Rattle.model.specs.Report.{meansWithin}
-use Rattle.model.specs.Board.{stateSound, CommandOutcome, commandRefused, commandAccepted, commandOutcome, TickOutcome, withoutReport, atNextPhase, tickReported, reportOutcome, runningOutcome, lengthsFit, tickOutcome}
+use Rattle.model.specs.Totals.{added}
+use Rattle.model.specs.Board.{stateSound, CommandOutcome, commandRefused, commandAccepted, commandOutcome, TickOutcome, withoutReport, atNextPhase, tickReported, runningOutcome, lengthsFit, tickOutcome}
 use Rattle.dfb_refusals.specs.Numbers.{above16}
 use Rattle.dfb_board.specs.State.{stateOf}
 use Rattle.dfb_board.specs.Calls.{commandLeft, tickLeft}
@@ -49,18 +48,13 @@ module _ (s : State) (totals out : List ℕ) (n : ℕ) where
   other-tick : (o : TickOutcome) → (o .answer ≡ refused n → ⊥) → TickSame s totals out n o
   other-tick o given = record { same = λ e. absurd (given e) }
 
-  report-same : (sums : List ℕ) → TickSame s totals out n (reportOutcome s totals sums out)
-  unfolding reportOutcome
-  report-same sums =
-      cond-at (TickSame s totals out n) (not (meansWithin (s .registers) (slot sums))) (λ _. refused-tick 13)
-      (λ _. other-tick (tickReported s sums out) (λ e. let z : _≡_ {A = ℕ} 0 1 = cc in omega arith))
-
   running-same : (sums : List ℕ) → TickSame s totals out n (runningOutcome s totals sums out)
   unfolding runningOutcome
   running-same sums =
       cond-at (TickSame s totals out n) (ltb (s .phase) (averagedSpectra (s .registers) - 1))
       (λ _. other-tick (withoutReport collected (atNextPhase s) sums out) (λ e. let z : _≡_ {A = ℕ} 0 1 = cc in omega arith))
-      (λ _. cond-at (TickSame s totals out n) (eqb (s .phase) (averagedSpectra (s .registers) - 1)) (λ _. report-same sums)
+      (λ _. cond-at (TickSame s totals out n) (eqb (s .phase) (averagedSpectra (s .registers) - 1))
+      (λ _. other-tick (tickReported s sums out) (λ e. let z : _≡_ {A = ℕ} 0 1 = cc in omega arith))
       (λ _. other-tick (withoutReport waiting (atNextPhase s) totals out) (λ e. let z : _≡_ {A = ℕ} 0 1 = cc in omega arith)))
 
   tick-same : (powers : List ℕ) → TickSame s totals out n (tickOutcome s totals powers out)

@@ -106,7 +106,7 @@ pub extern "C" fn dfb_read(state: &[u16], id: u8) -> u32
     answer_16(load(state).read(id))
 }
 
-// A tick with 7 rows of 1,024 powers; a report writes 3 bytes for each word from the start of out. Refused by 2, then 3, then 13.
+// A tick with 7 rows of 1,024 powers; a report writes 3 bytes for each word from the start of out. Refused by 2, then 3.
 #[no_mangle]
 pub extern "C" fn dfb_tick(
     state: &mut [u16],

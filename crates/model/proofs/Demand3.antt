@@ -2,13 +2,14 @@
 use Prim.Native.Nat.{ℕ, _≤_, _<_}
 use mathlib.Core.Path.{_≡_, sym, ap, _∙_, subst}
 use mathlib.Core.List.{List, [], _∷_, map}
+use lib.ListN.{length}
 use native.Mathlib.Nat.{le-trans, mul-pos, le-div-iff-mul-le, div-mul-le-self}
 use Rattle.codes.specs.Code.{bandCode, bandValue}
 use Rattle.codes.specs.Bounds.{MeanBounds}
 use Rattle.codes.proofs.Laws.{band-mean, band-mono}
 use Rattle.bands.specs.Band.{sizeExponent}
 use Rattle.bands.proofs.Power.{width-pos}
-use Rattle.settings.specs.Settings.{settingOf}
+use Rattle.settings.specs.Settings.{settingOf, averagedSpectra}
 use Rattle.registers.specs.declared.Registers.{Registers}
 use Rattle.settings.proofs.Settings.{averaged-pos}
 use Rattle.model.specs.Reply.{reported}
@@ -18,17 +19,17 @@ use Rattle.model.specs.Calls.{Memory, Call, Typed, performAll, perform, 
 use Rattle.model.specs.Demand.{AllTyped, printedValue, ReportedBand, Agrees, Run, modelOf, performed, Reports, NoSmaller, Demand3}
 use Rattle.model.proofs.SpectraTotals.{spectraTotal-mono}
 use Rattle.model.proofs.Invariant.{Represents, Good, begun-represents, begun-good}
-use Rattle.model.proofs.Reports.{GoodReport, printed-mean}
+use Rattle.model.proofs.Reports.{printed-mean}
 use Rattle.model.proofs.Keeps.{GoodReply, keeps, refused-lt}
 use Rattle.model.proofs.Simulation.{follows}
 
 divisor-pos : (r : Registers) (b : ℕ) → 0 < divisor r b
 divisor-pos r b = mul-pos (averaged-pos r) (width-pos (sizeExponent (settingOf r)) b)
 
--- ---- a report: it is on N spectra of 32-bit powers, and each printed value is what the code of the mean stands for
+-- ---- a report: it is on N spectra, and each printed value is what the code of the mean stands for
 
 record Report (r : Registers) (sp : List (List ℕ)) (out : List ℕ) : Type 0 where
-  good : GoodReport r sp
+  count : length sp ≡ averagedSpectra r
   value : (n b : ℕ) → ReportedBand r n b → printedValue r out n b ≡ bandValue (bandCode (mean r (spectraTotal r sp) n b))
 
 module _ (r : Registers) (n b : ℕ) (s : ReportedBand r n b) where
@@ -40,7 +41,7 @@ module _ (r : Registers) (n b : ℕ) (s : ReportedBand r n b) where
   ordered {sp} {sp′} p p′ h =
       let d : 0 < divisor r b = divisor-pos r b in
       let t : spectraTotal r sp n b ≤ spectraTotal r sp′ n b =
-      spectraTotal-mono r n b sp sp′ (p .good .count ∙ sym (p′ .good .count)) (λ i k l m. h i n k l (s .processor) (s .enabled) m) in
+      spectraTotal-mono r n b sp sp′ (p .count ∙ sym (p′ .count)) (λ i k l m. h i n k l (s .processor) (s .enabled) m) in
       rw (p .value n b s, p′ .value n b s)
       (band-mono _ _ (le-div-iff-mul-le d .1 (le-trans (div-mul-le-self (spectraTotal r sp n b) (divisor r b)) t)))
 
@@ -50,21 +51,21 @@ module _ (m : Reference) (g : Good m) (x : Memory) (h : Represents m x) (c : Cal
   report : (sp : List (List ℕ)) → entry m (inputOf c) .reply ≡ reported sp → Report (m .registers) sp (perform x c .out)
   report sp e =
       record {
-        good = subst (GoodReply (m .registers)) e (keeps m g c typed .reply);
+        count = subst (GoodReply (m .registers)) e (keeps m g c typed .reply);
         value = λ n b s.
-            ap (λ o. printedValue (m .registers) o n b) (follows m g x h c typed .out ∙ ap (λ a. writtenBy (m .registers) a (outOf c)) e)
+            ap (λ o. printedValue (m .registers) o n b) (follows m g x h c .out ∙ ap (λ a. writtenBy (m .registers) a (outOf c)) e)
             ∙ printed-mean (m .registers) (spectraTotal (m .registers) sp) n b s (outOf c);
       }
 
   agrees : Agrees m c (perform x c)
   agrees =
-      let f = follows m g x h c typed in
+      let f = follows m g x h c in
       record {
         registers = f .next .registers;
         phase = f .next .phase;
         answer = f .answer;
         out = f .out;
-        count = λ sp e. report sp e .good .count;
+        count = λ sp e. report sp e .count;
         near = λ sp e n b s. near (m .registers) n b s (report sp e);
       }
 
@@ -78,7 +79,7 @@ record Kept (m : Reference) (x : Memory) : Type 0 where
 kept : (m : Reference) → Good m → (x : Memory) → Represents m x → (cs : List Call) → AllTyped cs → Kept (after m (map inputOf cs)) (performAll x cs)
 kept m g x h [] typed = record { good = g; represents = h }
 kept m g x h (c ∷ cs) typed =
-    kept (entry m (inputOf c) .next) (keeps m g c (typed .0) .next) (perform x c .memory) (follows m g x h c (typed .0) .next) cs (typed .1)
+    kept (entry m (inputOf c) .next) (keeps m g c (typed .0) .next) (perform x c .memory) (follows m g x h c .next) cs (typed .1)
 
 run-kept : (x : Run) → Kept (modelOf x) (performAll (x .start) (x .calls))
 run-kept x = kept (begin (x .start)) (begun-good (x .start) (x .begun)) (x .start) (begun-represents (x .start) (x .begun)) (x .calls) (x .typed)

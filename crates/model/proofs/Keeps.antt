@@ -1,7 +1,7 @@
--- A call keeps the model's numbers good, is refused by 1 or 2 if at all, and reports on N spectra of 32-bit powers. Assumes nothing.
+-- A call keeps the model's numbers good, is refused by 1 or 2 if at all, and reports on N spectra. Assumes nothing.
 use Prim.Native.Nat.{ℕ, _-_, _<_}
-use mathlib.Core.Path.{_≡_, sym, ap, subst, _∙_}
-use mathlib.Core.Bool.{true, not, true≢false, _&&_}
+use mathlib.Core.Path.{_≡_, sym, subst}
+use mathlib.Core.Bool.{true, not, _&&_}
 use mathlib.Core.List.{List, [], _∷_, _++_}
 use native.Mathlib.Omega.{arith}
 use lib.ListN.{length, length-append}
@@ -13,14 +13,12 @@ use Rattle.settings.specs.Settings.{averagedSpectra, runningOf}
 use Rattle.registers.specs.declared.Registers.{Registers}
 use Rattle.registers.proofs.Theorems.{write-sound}
 use Rattle.model.specs.Reply.{Reply, refused, stores, idle, collected, waiting, reported}
-use Rattle.model.specs.Report.{meansWithin}
 use Rattle.model.specs.Board.{spectraHeld}
-use Rattle.model.specs.Reference.{Reference, Input, Entry, afterTick, entryRunning, entry, spectraTotal}
+use Rattle.model.specs.Reference.{Reference, Input, Entry, afterTick, entryRunning, entry}
 use Rattle.model.specs.Calls.{Powers, Call, command, tick, Typed, inputOf, passedLength, answerOf}
 use Rattle.model.proofs.SpectraTotals.{AllPowers, powers-snoc}
 use Rattle.model.proofs.Phases.{byBoardCases, entry-cases, nextPhase, held-collecting, held-reporting, next-collecting, next-other}
 use Rattle.model.proofs.Invariant.{Good, fresh-good}
-use Rattle.model.proofs.Reports.{GoodReport, model-accepts}
 
 abbrev pub GoodReply : Registers → Reply (List (List ℕ)) → Type 0
 GoodReply r (refused n) = n < 3
@@ -28,7 +26,7 @@ GoodReply r (stores v) = Unit {0}
 GoodReply r idle = Unit {0}
 GoodReply r collected = Unit {0}
 GoodReply r waiting = Unit {0}
-GoodReply r (reported sp) = GoodReport r sp
+GoodReply r (reported sp) = length sp ≡ averagedSpectra r
 
 pub record GoodEntry (r : Registers) (e : Entry) : Type 0 where
   pub reply : GoodReply r (e .reply)
@@ -38,14 +36,10 @@ module _ (m : Reference) (g : Good m) where
   abbrev r : Registers
   r = m .registers
 
-  -- one spectrum more
-  pub report-good : runningOf r ≡ true → (ps : List ℕ) → Powers ps → eqb (m .phase) (averagedSpectra r - 1) ≡ true →
-      GoodReport r (m .spectra ++ (ps ∷ []))
-  report-good run ps h e =
-      record {
-        count = omega (arith, length-append (m .spectra) (ps ∷ []), g .held, held-reporting r run (m .phase) e);
-        powers = powers-snoc (m .spectra) ps (g .powers) h;
-      }
+  -- a report is on the spectra held and the tick's: N
+  report-count : runningOf r ≡ true → (ps : List ℕ) → eqb (m .phase) (averagedSpectra r - 1) ≡ true →
+      length (m .spectra ++ (ps ∷ [])) ≡ averagedSpectra r
+  report-count run ps e = omega (arith, length-append (m .spectra) (ps ∷ []), g .held, held-reporting r run (m .phase) e)
 
   next-good : (sp : List (List ℕ)) → length sp ≡ spectraHeld r (nextPhase r (m .phase)) → AllPowers sp → Good (afterTick m sp)
   next-good sp h a = record { registers = g .registers; held = h; powers = a }
@@ -80,9 +74,7 @@ module _ (m : Reference) (g : Good m) where
           (λ c. record { reply = tt; next = next-good _ (one-more ps run c) (powers-snoc (m .spectra) ps (g .powers) h) })
           (λ c. let rest = next-good [] (sym (next-other r run (m .phase) c)) tt in
           cond-at (GoodEntry r) (eqb (m .phase) (averagedSpectra r - 1))
-          (λ q. cond-at (GoodEntry r) (not (meansWithin r (spectraTotal r (m .spectra ++ (ps ∷ [])))))
-          (λ e. absurd (true≢false (sym e ∙ ap not (model-accepts r (m .spectra ++ (ps ∷ [])) (report-good run ps h q)))))
-          (λ e. record { reply = report-good run ps h q; next = rest }))
+          (λ q. record { reply = report-count run ps q; next = rest })
           (λ q. record { reply = tt; next = rest }))
 
       runs : runningOf r ≡ true → GoodEntry r (entryRunning m ps)

@@ -1,26 +1,24 @@
--- The bytes of a report: what they depend on, that refusal 13 never comes, and the codes read back out of them. Assumes nothing.
-use Prim.Native.Nat.{ℕ, _+_, _-_, _*_, _/_, _%_, _^_, _≤_, _<_}
+-- The bytes of a report: what they depend on, and the codes read back out of them. Assumes nothing.
+use Prim.Native.Nat.{ℕ, _+_, _*_, _/_, _%_, _<_}
 use mathlib.Core.Path.{_≡_, refl, sym, ap, _∙_, subst}
-use mathlib.Core.Bool.{Bool, true, false, cond, not, _&&_, _||_, and-eq-true-iff}
+use mathlib.Core.Bool.{true, cond, _&&_, and-eq-true-iff}
 use mathlib.Core.List.{List, [], _++_}
 use native.Mathlib.Omega.{arith}
 use native.Mathlib.Nat.{mul-assoc, one-mul, zero-mul}
 use lib.ListN.{length, getD, drop}
 use lib.Dec.{ltb, eqb, lit<}
-use borrow.Author.Tests.{lt-ltb, le-leb, eqb-true, eqb-false}
+use borrow.Author.Tests.{lt-ltb, eqb-true, eqb-false}
 use Rattle.lists.specs.Tables.{concatTo, overwrite}
 use Rattle.lists.proofs.Choices.{cond-both, cond-true, cond-at}
-use Rattle.lists.proofs.Sums.{allTo-of}
 use Rattle.lists.proofs.Tables.{concatTo-ext, length-concatTo, length-parts, getD-concatTo, getD-concatTo-then}
 use Rattle.codes.specs.Code.{bandCode, bandValue}
-use Rattle.settings.specs.Settings.{averagedSpectra, enabledOf, enabledBefore, bandsOf}
+use Rattle.settings.specs.Settings.{enabledOf, enabledBefore, bandsOf}
 use Rattle.registers.specs.declared.Registers.{Registers}
 use Rattle.settings.proofs.Settings.{bands-le, bands-even}
 use Rattle.model.specs.Totals.{slot}
-use Rattle.model.specs.Report.{divisor, mean, specWord, processorBytes, reportBytes, meansWithin}
+use Rattle.model.specs.Report.{mean, specWord, processorBytes, reportBytes}
 use Rattle.model.specs.Reference.{spectraTotal}
 use Rattle.model.specs.Demand.{ReportedBand, wordIndex, byteInWord, printedValue}
-use Rattle.model.proofs.SpectraTotals.{AllPowers, spectraTotal-le}
 use Rattle.model.proofs.Invariant.{heldTotals, slot-of-held}
 
 -- The totals held are, slot by slot, the spectra's.
@@ -41,31 +39,6 @@ unfolding reportBytes processorBytes
 report-ext r t t′ h =
     concatTo-ext 7 _ _ (λ n l. cond-both (λ x. x) (λ x. x) (enabledOf r n) (λ on.
     words-ext (bandsOf r / 2) _ _ (λ b k. ap (λ x. mean r (λ i j. x) n b) (h n b (record { processor = l; enabled = on; band = omega arith })))) (λ off. refl))
-
--- A report is on N spectra of 32-bit powers, so refusal 13 never comes, in the model or on the board.
-pub record GoodReport (r : Registers) (sp : List (List ℕ)) : Type 0 where
-  pub count : length sp ≡ averagedSpectra r
-  pub powers : AllPowers sp
-
-pub mean-within : (r : Registers) (sp : List (List ℕ)) → GoodReport r sp → (n b : ℕ) → b < bandsOf r → spectraTotal r sp n b ≤ divisor r b * (2 ^ 32 - 1)
-mean-within r sp g n b l = rw (← g .count) (spectraTotal-le r n b l sp (g .powers))
-
-pub means-within : (r : Registers) (t : ℕ → ℕ → ℕ) → ((n b : ℕ) → ReportedBand r n b → t n b ≤ divisor r b * (2 ^ 32 - 1)) → meansWithin r t ≡ true
-unfolding meansWithin
-means-within r t h =
-    allTo-of 7 _ (λ n l. implies (enabledOf r n) (λ on. allTo-of (bandsOf r) _ (λ b k.
-    le-leb _ _ (h n b (record { processor = l; enabled = on; band = k })))))
-  where
-    implies : (t : Bool) {u : Bool} → (t ≡ true → u ≡ true) → (not t || u) ≡ true
-    implies true k = k refl
-    implies false k = refl
-
-module _ (r : Registers) (sp : List (List ℕ)) (g : GoodReport r sp) where
-  pub model-accepts : meansWithin r (spectraTotal r sp) ≡ true
-  model-accepts = means-within r _ (λ n b s. mean-within r sp g n b (s .band))
-
-  pub board-accepts : meansWithin r (slot (heldTotals r sp)) ≡ true
-  board-accepts = means-within r _ (λ n b s. rw (slot-held r sp n b s) (mean-within r sp g n b (s .band)))
 
 -- The code of a band, in its word, in its processor's words, in the report.
 byte-lt : (b : ℕ) → byteInWord b < 3

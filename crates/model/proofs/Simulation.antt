@@ -1,6 +1,6 @@
 -- A call on the board follows the reference model's entry for it. Assumes nothing.
 use Prim.Native.Nat.{ℕ, _-_}
-use mathlib.Core.Path.{_≡_, refl, sym, ap, ap₂, subst, _∙_}
+use mathlib.Core.Path.{_≡_, refl, ap, ap₂, subst, _∙_}
 use mathlib.Core.Bool.{true, not, and-false}
 use mathlib.Core.List.{List, [], _∷_, _++_}
 use native.Mathlib.Omega.{arith}
@@ -14,14 +14,13 @@ use Rattle.settings.specs.Settings.{averagedSpectra, runningOf, specWords}
 use Rattle.registers.specs.declared.Registers.{Registers}
 use Rattle.model.specs.Reply.{reported}
 use Rattle.model.specs.Totals.{slot, added}
-use Rattle.model.specs.Report.{reportBytes, meansWithin}
-use Rattle.model.specs.Board.{CommandOutcome, TickOutcome, atNextPhase, lengthsFit, reportOutcome, runningOutcome, commandOutcome, tickOutcome}
+use Rattle.model.specs.Report.{reportBytes}
+use Rattle.model.specs.Board.{CommandOutcome, TickOutcome, atNextPhase, lengthsFit, tickReported, runningOutcome, commandOutcome, tickOutcome}
 use Rattle.model.specs.Reference.{Reference, Entry, afterTick, entryReport, entryRunning, entry, spectraTotal}
-use Rattle.model.specs.Calls.{Powers, TotalsPassed, current, wrong, Memory, Call, command, tick, Typed, Performed, performCommand, performTick, perform, inputOf, outOf, answerOf, writtenBy}
+use Rattle.model.specs.Calls.{TotalsPassed, current, wrong, Memory, Call, command, tick, Performed, performCommand, performTick, perform, inputOf, outOf, answerOf, writtenBy}
 use Rattle.model.proofs.Phases.{byBoardCases, entry-cases, nextPhase, held-waiting, fresh-sound, next-sound}
 use Rattle.model.proofs.Invariant.{heldTotals, Represents, Good, memory-sound, memory-length, held-no, held-added}
-use Rattle.model.proofs.Reports.{GoodReport, slot-held, report-ext, model-accepts, board-accepts}
-use Rattle.model.proofs.Keeps.{report-good}
+use Rattle.model.proofs.Reports.{slot-held, report-ext}
 
 -- what a call leaves is what the model's entry e, made at registers r, says of it
 pub record Follows (r : Registers) (before : List ℕ) (e : Entry) (p : Performed) : Type 0 where
@@ -75,7 +74,7 @@ module _ (m : Reference) (g : Good m) (x : Memory) (h : Represents m x) where
         totals = e;
       }
 
-  module _ (run : runningOf r ≡ true) (ps out : List ℕ) (typed : Powers ps) where
+  module _ (run : runningOf r ≡ true) (ps out : List ℕ) where
     abbrev sp : List (List ℕ)
     sp = m .spectra ++ (ps ∷ [])
 
@@ -86,22 +85,16 @@ module _ (m : Reference) (g : Good m) (x : Memory) (h : Represents m x) where
     sums : tickSums ≡ heldTotals r sp
     sums = ap₂ (λ k l. added k l ps) (h .registers) (h .totals) ∙ held-added r (m .spectra) ps
 
-    bytes : GoodReport r sp → reportBytes (x .state .registers) (slot tickSums) ≡ reportBytes r (spectraTotal r sp)
-    bytes k = ap₂ (λ q l. reportBytes q (slot l)) (h .registers) sums ∙ report-ext r _ _ (slot-held r sp)
+    bytes : reportBytes (x .state .registers) (slot tickSums) ≡ reportBytes r (spectraTotal r sp)
+    bytes = ap₂ (λ q l. reportBytes q (slot l)) (h .registers) sums ∙ report-ext r _ _ (slot-held r sp)
 
-    follows-report : GoodReport r sp →
-        FollowsTick out (reportOutcome (x .state) (x .totals) tickSums out) (entryReport m sp)
-    unfolding reportOutcome
-    follows-report k =
-        cond-related (FollowsTick out) (not (meansWithin (x .state .registers) (slot tickSums)))
-        (not (meansWithin r (spectraTotal r sp)))
-        (ap not (ap₂ (λ q l. meansWithin q (slot l)) (h .registers) sums ∙ board-accepts r sp k ∙ sym (model-accepts r sp k)))
-        (λ e. record { answer = refl; out = refl; next = unchanged })
-        (λ e. record {
+    follows-report : FollowsTick out (tickReported (x .state) tickSums out) (entryReport m sp)
+    follows-report =
+        record {
           answer = ap (λ q. reported (specWords q)) (h .registers);
-          out = ap (λ l. overwrite l out) (bytes k);
+          out = ap (λ l. overwrite l out) bytes;
           next = ticked run [] _ (held-no r);
-        })
+        }
 
     by-cases : FollowsTick out (runningOutcome (x .state) (x .totals) tickSums out) (byBoardCases m sp)
     unfolding runningOutcome
@@ -111,7 +104,7 @@ module _ (m : Reference) (g : Good m) (x : Memory) (h : Represents m x) where
         (λ c. record { answer = refl; out = refl; next = ticked run sp _ sums })
         (λ c. cond-related (FollowsTick out) (eqb (x .state .phase) (averagedSpectra (x .state .registers) - 1)) (eqb (m .phase) (averagedSpectra r - 1))
         (ap₂ (λ q p. eqb p (averagedSpectra q - 1)) (h .registers) (h .phase))
-        (λ q. follows-report (report-good m g run ps typed q))
+        (λ q. follows-report)
         (λ q. record {
           answer = refl;
           out = refl;
@@ -121,18 +114,18 @@ module _ (m : Reference) (g : Good m) (x : Memory) (h : Represents m x) where
     follows-running : FollowsTick out (runningOutcome (x .state) (x .totals) tickSums out) (entryRunning m ps)
     follows-running = subst (FollowsTick out _) (entry-cases m ps) by-cases
 
-  follows-tick : (ps out : List ℕ) (t : TotalsPassed) → Powers ps → Follows r out (entry m (inputOf (tick ps t out))) (perform x (tick ps t out))
+  follows-tick : (ps out : List ℕ) (t : TotalsPassed) → Follows r out (entry m (inputOf (tick ps t out))) (perform x (tick ps t out))
   unfolding entry tickOutcome
-  follows-tick ps out current typed =
+  follows-tick ps out current =
       rw (memory-length m x h, memory-sound m g x h)
       (cond-related (FollowsTick out) (not (lengthsFit (length ps) 784 (length out))) (not (lengthsFit (length ps) 784 (length out))) refl
       (λ e. record { answer = refl; out = refl; next = unchanged })
       (λ e. cond-related (FollowsTick out) (not (runningOf (x .state .registers))) (not (runningOf r)) (ap (λ q. not (runningOf q)) (h .registers))
       (λ e. record { answer = refl; out = refl; next = unchanged })
-      (λ e. follows-running (not-false (runningOf r) e) ps out typed)))
-  follows-tick ps out (wrong l d) typed =
+      (λ e. follows-running (not-false (runningOf r) e) ps out)))
+  follows-tick ps out (wrong l d) =
       rw (ne-eqb (length l) 784 d, and-false (eqb (length ps) 7168)) (record { answer = refl; out = refl; next = unchanged })
 
-  pub follows : (c : Call) → Typed c → Follows r (outOf c) (entry m (inputOf c)) (perform x c)
-  follows (command id v t) typed = follows-command id v t
-  follows (tick ps t out) typed = follows-tick ps out t typed
+  pub follows : (c : Call) → Follows r (outOf c) (entry m (inputOf c)) (perform x c)
+  follows (command id v t) = follows-command id v t
+  follows (tick ps t out) = follows-tick ps out t

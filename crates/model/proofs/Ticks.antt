@@ -1,5 +1,5 @@
--- One tick, from any state: rows of disabled processors do not matter, and only a report writes output; from a sound state refusal 13
--- never comes. Assumes nothing.
+-- One tick, from any state: rows of disabled processors do not matter, and only a report writes output; from a sound state no report
+-- meets a band mean over 2 ^ 32 - 1. Assumes nothing.
 use Prim.Native.Nat.{ℕ, _+_, _*_, _-_, _^_, _≤_, _<_}
 use mathlib.Core.Path.{_≡_, refl, ap}
 use mathlib.Core.Bool.{true, cond, not}
@@ -9,7 +9,7 @@ use native.Mathlib.Omega.{arith}
 use native.Mathlib.Nat.{add-le-add, add-mul, one-mul}
 use lib.ListN.{length}
 use lib.Dec.{ltb, eqb}
-use borrow.Author.Tests.{lt-ltb}
+use borrow.Author.Tests.{lt-ltb, eq-eqb}
 use Rattle.lists.proofs.Choices.{both, cond-at, cond-both}
 use Rattle.lists.proofs.Tables.{getD-grid, grid-ext}
 use Rattle.bands.specs.Band.{sizeExponent}
@@ -18,16 +18,14 @@ use Rattle.settings.specs.Settings.{settingOf, bandsOf, averagedSpectra, enable
 use Rattle.registers.specs.declared.Registers.{Registers}
 use Rattle.settings.proofs.Settings.{bands-le}
 use Rattle.model.specs.Totals.{inUse, widthOf, power, bandPower, slot, added}
-use Rattle.model.specs.Report.{meansWithin}
-use Rattle.model.specs.Board.{spectraHeld, stateSound, lengthsFit, TickOutcome, reportOutcome, runningOutcome, tickOutcome}
+use Rattle.model.specs.Board.{spectraHeld, stateSound, lengthsFit, TickOutcome, runningOutcome, tickOutcome}
 use Rattle.model.specs.Calls.{Powers}
 use Rattle.model.specs.Demand.{ReportedBand}
-use Rattle.model.specs.Claims.{DisabledRows, IsReport, OnlyReportsWrite, Never13}
+use Rattle.model.specs.Claims.{DisabledRows, IsReport, OnlyReportsWrite, MeansWithin}
 use Rattle.model.specs.declared.State.{State}
 use Rattle.model.proofs.SpectraTotals.{bandPower-le}
 use Rattle.model.proofs.Phases.{held-reporting}
 use Rattle.model.proofs.Sound.{Sound, sound-parts}
-use Rattle.model.proofs.Reports.{means-within}
 
 -- ---- 01: rows of disabled processors may hold anything: no answer, state or byte depends on them
 
@@ -47,15 +45,13 @@ disabled-rows s totals ps qs out e same = rw (e, added-same (s .registers) ps qs
 -- ---- 01: only a report writes output
 
 pub only-reports-write : OnlyReportsWrite
-unfolding tickOutcome runningOutcome reportOutcome
+unfolding tickOutcome runningOutcome
 only-reports-write s totals ps out =
     cond-at Writes (not (lengthsFit (length ps) (length totals) (length out))) (λ e. inr refl) (λ e.
     cond-at Writes (not (stateSound s totals)) (λ e. inr refl) (λ e.
     cond-at Writes (not (runningOf (s .registers))) (λ e. inr refl) (λ e.
     cond-at Writes (ltb (s .phase) (averagedSpectra (s .registers) - 1)) (λ e. inr refl) (λ e.
-    cond-at Writes (eqb (s .phase) (averagedSpectra (s .registers) - 1))
-    (λ e. cond-at Writes (not (meansWithin (s .registers) (slot (added (s .registers) totals ps)))) (λ e. inr refl) (λ e. inl tt))
-    (λ e. inr refl)))))
+    cond-at Writes (eqb (s .phase) (averagedSpectra (s .registers) - 1)) (λ e. inl tt) (λ e. inr refl)))))
   where
     Writes : TickOutcome → Type 0
     Writes o = IsReport (o .answer) ⊎ (o .out ≡ out)
@@ -78,6 +74,6 @@ slot-le s totals ps h k n b u =
     rw (getD-grid {A = ℕ} 7 112 (λ n b. slot totals n b + cond (inUse r n b) (bandPower r ps n b) 0) 0 n b (u .processor) l, in-use r n b u, add-mul p 1 w, one-mul w, add-mul (p * w) w (2 ^ 32 - 1))
     (add-le-add a (bandPower-le r n b (u .band) ps k))
 
-pub never-13 : Never13
-never-13 s totals ps h k run e =
-    means-within (s .registers) _ (λ n b u. rw (held-reporting (s .registers) run (s .phase) e) at (slot-le s totals ps (sound-parts s totals h) k n b u))
+pub means-within : MeansWithin
+means-within s totals ps h k run last n b u =
+    rw (held-reporting (s .registers) run (s .phase) (eq-eqb _ _ last)) at (slot-le s totals ps (sound-parts s totals h) k n b u)

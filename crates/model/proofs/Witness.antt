@@ -22,7 +22,7 @@ use Rattle.model.specs.Calls.{Powers, Call, command, tick, current, inpu
 use Rattle.model.specs.Demand.{ReportedBand, printedValue, resetMemory, Run, modelOf, performed, Reports}
 use Rattle.model.specs.Claims.{SomeListReports, SomeListAverages}
 use Rattle.model.proofs.Invariant.{reset-begun}
-use Rattle.model.proofs.Reports.{GoodReport, model-accepts, printed-mean}
+use Rattle.model.proofs.Reports.{printed-mean}
 use Rattle.model.proofs.Demand3.{demand-3}
 
 -- the rows of a tick whose powers are all v, and an output for it
@@ -111,13 +111,9 @@ unfolding whole earlier
 second-model = ap (λ (m : Reference). entry m (inputOf (spectrum 8)) .next) first-model ∙ ap (λ (e : Entry). e .next) first-tick
 
 -- the last tick reports on both spectra
-good : GoodReport registers spectra
-unfolding registers averagedSpectra highStored lowStored storedAt
-good = record { count = refl; powers = (typed-8, (typed-11, tt)) }
-
 second-tick : entry (held 1 (powers 8 ∷ [])) (inputOf (spectrum 11)) .reply ≡ reported spectra
 unfolding entry registers averagedSpectra periodTicks runningOf enabledOf sumTo highStored lowStored storedAt
-second-tick = rw (powers-length 11, output-length, model-accepts registers spectra good)
+second-tick = rw (powers-length 11, output-length)
 
 whole-reports : Reports whole spectra
 unfolding whole

@@ -16,7 +16,7 @@ use Rattle.settings.specs.Settings.{averagedSpectra, periodTicks, runningOf, sp
 use Rattle.registers.specs.declared.Registers.{Registers}
 use Rattle.model.specs.Reply.{Reply, refused, stores, idle, collected, waiting, reported}
 use Rattle.model.specs.Totals.{inUse, widthOf, slot, noTotals, added}
-use Rattle.model.specs.Report.{reportBytes, meansWithin}
+use Rattle.model.specs.Report.{reportBytes}
 use Rattle.model.specs.declared.State.{State}
 use Rattle.model.specs.declared.TickAnswer.{TickAnswer}
 use Rattle.model.specs.declared.Commanded.{Commanded}
@@ -121,23 +121,18 @@ tickReported s sums out =
       out = overwrite (reportBytes (s .registers) (slot sums)) out;
     }
 
--- at phase N - 1: refused by 13, else reported
-unfoldable pub reportOutcome : State → List ℕ → List ℕ → List ℕ → TickOutcome
-reportOutcome s totals sums out =
-    cond (not (meansWithin (s .registers) (slot sums))) (withoutReport (refused 13) s totals out) (tickReported s sums out)
-
 -- a tick of a running board at phase p: collected at p < N - 1, reported at p = N - 1, waiting at p ≥ N
 unfoldable pub runningOutcome : State → List ℕ → List ℕ → List ℕ → TickOutcome
 runningOutcome s totals sums out =
     cond (ltb (s .phase) (averagedSpectra (s .registers) - 1)) (withoutReport collected (atNextPhase s) sums out)
-    (cond (eqb (s .phase) (averagedSpectra (s .registers) - 1)) (reportOutcome s totals sums out)
+    (cond (eqb (s .phase) (averagedSpectra (s .registers) - 1)) (tickReported s sums out)
     (withoutReport waiting (atNextPhase s) totals out))
 
 -- the lengths of powers, totals and output that refusal 2 asks
 abbrev pub lengthsFit : ℕ → ℕ → ℕ → Bool
 lengthsFit powers totals out = eqb powers 7168 && eqb totals 784 && leb 1176 out
 
--- a tick: refused by 2, 3, then 13; idle when not running
+-- a tick: refused by 2, then 3; idle when not running
 unfoldable pub tickOutcome : State → List ℕ → List ℕ → List ℕ → TickOutcome
 tickOutcome s totals powers out =
     cond (not (lengthsFit (length powers) (length totals) (length out))) (withoutReport (refused 2) s totals out)

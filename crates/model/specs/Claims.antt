@@ -1,11 +1,10 @@
 -- What is proved of single calls, and that demand 3 speaks of something: proofs/Ticks.antt, Commands.antt, Legal.antt, Invariant.antt and
 -- Witness.antt have it. Demand 3 itself is in Demand.antt.
-use Prim.Native.Nat.{ℕ, _-_, _*_, _<_, _^_}
+use Prim.Native.Nat.{ℕ, _-_, _*_, _≤_, _<_, _^_}
 use mathlib.Core.Path.{_≡_}
 use mathlib.Core.Bool.{true}
 use mathlib.Core.List.{List, [], _∷_, _++_}
 use mathlib.Core.Logic.{_⊎_}
-use lib.Dec.{eqb}
 use lib.ListN.{length, getD}
 use Rattle.refusal.specs.Outcome.{given}
 use Rattle.codes.specs.Code.{legalWords}
@@ -15,7 +14,7 @@ use Rattle.settings.specs.Settings.{averagedSpectra, enabledOf, runningOf, spec
 use Rattle.words.specs.Words.{bitsFrom}
 use Rattle.model.specs.Reply.{Reply, refused, stores, idle, collected, waiting, reported}
 use Rattle.model.specs.Totals.{power, slot, noTotals, added}
-use Rattle.model.specs.Report.{mean, reportBytes, meansWithin}
+use Rattle.model.specs.Report.{divisor, mean, reportBytes}
 use Rattle.model.specs.Board.{stateSound, commandOutcome, tickOutcome}
 use Rattle.model.specs.Reference.{entry, spectraTotal}
 use Rattle.model.specs.Calls.{Powers, inputOf}
@@ -63,11 +62,16 @@ abbrev pub OnlyReportsWrite : Type 0
 OnlyReportsWrite =
     (s : State) (totals ps out : List ℕ) → IsReport (tickOutcome s totals ps out .answer) ⊎ (tickOutcome s totals ps out .out ≡ out)
 
--- from a sound state no report meets a band mean over 2 ^ 32 - 1, so that refusal 13 never comes
-abbrev pub Never13 : Type 0
-Never13 =
+-- the exact mean of each band of each enabled processor is at most 2 ^ 32 - 1: T ≤ N · W · (2 ^ 32 - 1)
+abbrev pub NoMeanOver : Registers → (ℕ → ℕ → ℕ) → Type 0
+NoMeanOver r t = (n b : ℕ) → ReportedBand r n b → t n b ≤ divisor r b * (2 ^ 32 - 1)
+
+-- 02, ticket 14: from a sound state no report meets a band mean over 2 ^ 32 - 1, whatever powers under 2 ^ 32 the tick is given. So a tick
+-- has no refusal for it.
+abbrev pub MeansWithin : Type 0
+MeansWithin =
     (s : State) (totals ps : List ℕ) → stateSound s totals ≡ true → Powers ps → runningOf (s .registers) ≡ true →
-    eqb (s .phase) (averagedSpectra (s .registers) - 1) ≡ true → meansWithin (s .registers) (slot (added (s .registers) totals ps)) ≡ true
+    s .phase ≡ averagedSpectra (s .registers) - 1 → NoMeanOver (s .registers) (slot (added (s .registers) totals ps))
 
 -- a report has three bytes for each of its words, of which the first is the APID of SPEC, 0x4E
 abbrev pub ReportWords : Type 0

@@ -92,7 +92,7 @@ NoSmaller r sp sp′ =
 pub record Demand3 : Type 0 where
   -- each call agrees with the reference model
   pub agrees : (x : Run) → Agrees (modelOf x) (x .last) (performed x)
-  -- no refusal is 3 or more: refusal 3 never comes, and neither does 13
+  -- no refusal is 3 or more: refusal 3 never comes
   pub refusals : (x : Run) (n : ℕ) → performed x .answer ≡ refused n → n < 3
   -- of two reports with equal settings and no smaller powers in the second, no printed value is smaller in the second
   pub ordered : (x y : Run) (sp sp′ : List (List ℕ)) → Reports x sp → Reports y sp′ →

@@ -11,7 +11,6 @@ use Rattle.settings.specs.Settings.{averagedSpectra, periodTicks, runningOf}
 use Rattle.registers.specs.declared.Registers.{Registers}
 use Rattle.model.specs.Reply.{Reply, refused, stores, idle, collected, waiting, reported}
 use Rattle.model.specs.Totals.{bandPower}
-use Rattle.model.specs.Report.{meansWithin}
 
 -- what the book holds; spectra are 7 rows each, as handed in, oldest first
 pub record Reference : Type 0 where
@@ -50,11 +49,9 @@ abbrev pub afterTick : Reference → List (List ℕ) → Reference
 afterTick m spectra =
     record { registers = m .registers; phase = cond (eqb (m .phase) (periodTicks (m .registers) - 1)) 0 (m .phase + 1); spectra = spectra }
 
--- a report on the spectra kept: refused by 13, else it reports on them and drops them
+-- a report on the spectra kept, which the book then drops
 abbrev pub entryReport : Reference → List (List ℕ) → Entry
-entryReport m kept =
-    cond (not (meansWithin (m .registers) (spectraTotal (m .registers) kept))) (entryRefused m 13)
-    (record { reply = reported kept; next = afterTick m [] })
+entryReport m kept = record { reply = reported kept; next = afterTick m [] }
 
 -- with the tick's rows kept: at p = N - 1 the book then reports on its N spectra
 abbrev pub entryKept : Reference → List (List ℕ) → Entry

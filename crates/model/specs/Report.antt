@@ -1,13 +1,11 @@
 -- 01, "The two codes" (the code of a mean) and "Words and sets" (SPEC): the words of a report, from the total t n b of each processor n
--- and band b; and refusal 13.
-use Prim.Native.Nat.{ℕ, _+_, _-_, _*_, _/_, _^_}
-use mathlib.Core.Bool.{Bool, cond, _||_, not}
+-- and band b.
+use Prim.Native.Nat.{ℕ, _+_, _*_, _/_}
+use mathlib.Core.Bool.{cond}
 use mathlib.Core.List.{List, [], _∷_}
-use lib.Dec.{leb}
-use Rattle.lists.specs.Sums.{allTo}
 use Rattle.lists.specs.Tables.{concatTo}
 use Rattle.codes.specs.Code.{bandCode}
-use Rattle.settings.specs.Settings.{bandsOf, averagedSpectra, enabledOf, wordsEach}
+use Rattle.settings.specs.Settings.{averagedSpectra, enabledOf, wordsEach}
 use Rattle.registers.specs.declared.Registers.{Registers}
 use Rattle.model.specs.Totals.{widthOf}
 
@@ -30,11 +28,3 @@ processorBytes r t n = cond (enabledOf r n) (concatTo (wordsEach r) (specWord (m
 -- the enabled processors in rising order
 unfoldable pub reportBytes : Registers → (ℕ → ℕ → ℕ) → List ℕ
 reportBytes r t = concatTo 7 (processorBytes r t)
-
--- the exact mean of a band is at most 2 ^ 32 - 1
-abbrev pub meanWithin : Registers → (ℕ → ℕ → ℕ) → ℕ → ℕ → Bool
-meanWithin r t n b = leb (t n b) (divisor r b * (2 ^ 32 - 1))
-
--- that of each band of each enabled processor: exactly then refusal 13 does not come
-unfoldable pub meansWithin : Registers → (ℕ → ℕ → ℕ) → Bool
-meansWithin r t = allTo 7 (λ n. not (enabledOf r n) || allTo (bandsOf r) (meanWithin r t n))

@@ -323,7 +323,7 @@ fn refuse_unsound(r: &mut Random, state: &[u16], totals: &[u64]) {
     assert_eq!((state, totals, powers, out), before);
 }
 
-/// Each slot at its largest sound total and one above it, at every setting and phase of some periods.
+/// Each slot at its largest sound total and one above it, at every bin setting and some phases of some periods, the reporting ones too.
 #[test]
 fn limits_of_every_slot() {
     for setting in 0..3 {
