@@ -216,6 +216,18 @@ class Documents(unittest.TestCase):
             with open(os.path.join(folder, "day-start-2.svg")) as page:
                 self.assertEqual(page.read(), read("tests", "expected", "day-start-2.svg"))
 
+    def test_plot_of_equal_values(self):
+        """The power axis has two labels, though the values lie between two powers of ten."""
+        listing_of_20 = "DFB LOG 1\nC 30 0020\nP 1 00 36" + 36 * " 20" + "\nEND 19\n"
+        with tempfile.TemporaryDirectory() as folder:
+            path = os.path.join(folder, "equal.txt")
+            with open(path, "w") as out:
+                out.write(listing_of_20)
+            done = run([os.path.join(TOP, "tools", "plot"), path, folder])
+            self.assertEqual((done.returncode, done.stderr), (0, b""))
+            with open(os.path.join(folder, "equal-1.svg")) as page:
+                self.assertEqual(re.findall(r">10<tspan [^>]*>(-?\d+)</tspan>", page.read()), ["0", "1"])
+
     def test_handbook(self):
         """Blocks of a command and its output, and sentences 'Try it: `command` ends in `line`'."""
         handbook = read("docs", "HANDBOOK.md")
