@@ -27,9 +27,9 @@
 #include <stdint.h>
 
 /* The minor number rises with every function that is added or changed; the soname of libdfb.so is libdfb.so.MAJOR. */
-#define DFB_VERSION "0.4.0"
+#define DFB_VERSION "0.5.0"
 #define DFB_VERSION_MAJOR 0
-#define DFB_VERSION_MINOR 4
+#define DFB_VERSION_MINOR 5
 #define DFB_VERSION_PATCH 0
 
 #ifdef __cplusplus
@@ -282,7 +282,8 @@ uint32_t dfb_describe_band(uint8_t setting, uint8_t band, float *three, size_t t
  * 12 for a choice over 10, then 2 where value_len is 0. */
 uint32_t dfb_cadence_of(uint8_t choice, float *value, size_t value_len);
 
-/* The band code of a value; the value of a band code, or refusal 7. */
+/* The band code of a value: the nearer of the two neighbouring legal values, and the upper one halfway; of UINT32_MAX it is 0xF4. The
+ * value of a band code, at most 2^32, or refusal 7. */
 uint8_t dfb_compress_band(uint32_t value);
 uint64_t dfb_expand_band(uint8_t code);
 

@@ -8,7 +8,7 @@ import array
 import ctypes
 import os
 
-__version__ = "0.4.0"
+__version__ = "0.5.0"
 
 STATE, TOTALS, POWERS, OUTPUT = 8, 784, 7168, 1176
 RECORD, MOST_WORDS = 3, 7
@@ -200,7 +200,7 @@ def band_of(setting, fft_bin):
 
 
 def compress_band(value):
-    """The band code of a value."""
+    """The band code of a value: the nearer of the two neighbouring legal values, and the upper one halfway."""
     return _library.dfb_compress_band(_number(value, 32))
 
 

@@ -206,7 +206,7 @@ static void test_tick(void)
     make_board(DFB_OUTPUT + 5);
     ACCEPTED_32(DFB_IDLE, NULL, 0, tick(DFB_OUTPUT + 5));
 
-    /* N = C = 2, powers 8 and 11 in bin 0: the total is 19, the code 0x0C */
+    /* N = C = 2, powers 8 and 11 in bin 0: the total is 19, the code 0x0D */
     CHECK(command(0x30, 0x1120) == 0x1120);
     powers[0] = 8;
     CHECK(tick(DFB_OUTPUT + 5) == DFB_COLLECTED);
@@ -217,7 +217,7 @@ static void test_tick(void)
     uint32_t answer = tick(DFB_OUTPUT + 5);
     CHECK(answer == DFB_REPORTED + 18);
     CHECK(dfb_refusal_u32(answer) == 0 && dfb_report_words(answer) == 18);
-    CHECK(out[0] == 0x4E && out[1] == 0x00 && out[2] == 0x0C && out[3] == 0x4E && out[4] == 0 && out[5] == 0);
+    CHECK(out[0] == 0x4E && out[1] == 0x00 && out[2] == 0x0D && out[3] == 0x4E && out[4] == 0 && out[5] == 0);
     CHECK(memcmp(out + 54, lists[3].before + 54, DFB_OUTPUT + 5 - 54) == 0);
     CHECK(totals[0] == 0 && state[7] == 0);
 
@@ -453,12 +453,18 @@ static void test_cadence(void)
 
 static void test_codes(void)
 {
-    CHECK(dfb_compress_band(7) == 0x07 && dfb_compress_band(8) == 0x0C && dfb_compress_band(15) == 0x0F);
-    CHECK(dfb_compress_band(4294967295u) == 0xEF);
+    CHECK(dfb_compress_band(7) == 0x07 && dfb_compress_band(8) == 0x0C && dfb_compress_band(9) == 0x0D);
+    CHECK(dfb_compress_band(15) == 0x14 && dfb_compress_band(4294967295u) == 0xF4);
     ACCEPTED_64(14u, NULL, 0, dfb_expand_band(0x0F));
     ACCEPTED_64(3758096384u, NULL, 0, dfb_expand_band(0xEF));
+    ACCEPTED_64(4294967296u, NULL, 0, dfb_expand_band(0xF4));
     REFUSED_64(7u, dfb_expand_band(0x08));
-    REFUSED_64(7u, dfb_expand_band(0xF4));
+    REFUSED_64(7u, dfb_expand_band(0xF3));
+    REFUSED_64(7u, dfb_expand_band(0xF5));
+    REFUSED_64(7u, dfb_expand_band(0xF6));
+    REFUSED_64(7u, dfb_expand_band(0xF7));
+    REFUSED_64(7u, dfb_expand_band(0xF8));
+    REFUSED_64(7u, dfb_expand_band(0xFF));
 
     CHECK(dfb_compress_sum(1023) == 0x03FF && dfb_compress_sum(1024) == 0x0600 && dfb_compress_sum(UINT64_MAX) == 0xDBFF);
     uint64_t *value = (uint64_t *)make_list(2 * sizeof *value);

@@ -18,7 +18,7 @@ COPIES = {
     "AUDIT.md": ("docs", "share/doc/dfb"),
     "LICENSE": ("", "share/doc/dfb"),
 }
-for _name in ("day-start", "bursts", "damaged"):
+for _name in ("day-start", "bursts", "damaged", "rounded-down"):
     COPIES.update({"samples/%s.%s" % (_name, kind): ("", "share/doc/dfb") for kind in ("log", "txt")})
 
 

@@ -22,7 +22,7 @@ T
 P 1 00 36%s
 END 21
 refusal 1: the command ID is outside 0x30 to 0x36
-""" % (36 * " 8")
+""" % (36 * " 10")
 
 
 class Python(unittest.TestCase):
@@ -41,13 +41,13 @@ class Python(unittest.TestCase):
         self.assertEqual(board.command(0x30, 0xFFFF), 0x6363)
         self.assertEqual(board.read(0x30), 0x6363)
         self.assertEqual(board.command(0x30, 0x1020), 0x1020)
-        self.assertEqual(board.tick([9] * dfb.POWERS), bytes([0x4E, 0x0C, 0x0C]) * 18)
+        self.assertEqual(board.tick([9] * dfb.POWERS), bytes([0x4E, 0x0D, 0x0D]) * 18)
         self.assertEqual(board.tick([9] * dfb.POWERS), "waiting")
         self.assertEqual(board.command(0x30, 0x1120), 0x1120)
         self.assertEqual(board.tick([9] * dfb.POWERS), "collected")
         for number in range(7):
             board.command(0x30 + number, 0x00A0)
-        self.assertEqual(board.tick([9] * dfb.POWERS), bytes([0x4E, 0x0C, 0x0C]) * 392)
+        self.assertEqual(board.tick([9] * dfb.POWERS), bytes([0x4E, 0x0D, 0x0D]) * 392)
         self.refused(2, board.tick, [0])
         self.refused(1, board.read, 0x37)
         board.state[7] = 9
@@ -111,10 +111,12 @@ class Python(unittest.TestCase):
         self.assertEqual(str(caught.exception), "refusal 26: nothing is held to send, or no criterion is above 0")
 
     def test_codes_and_bands(self):
-        self.assertEqual((dfb.compress_band(15), dfb.expand_band(0x0F)), (0x0F, 14))
+        self.assertEqual((dfb.compress_band(15), dfb.expand_band(0x0F)), (0x14, 14))
+        self.assertEqual((dfb.compress_band(2**32 - 1), dfb.expand_band(0xF4)), (0xF4, 2**32))
         self.assertEqual((dfb.compress_sum(2**64 - 1), dfb.expand_sum(0xFC01)), (0xDBFF, 2**63))
         self.assertEqual((dfb.band_of(0, 512), dfb.describe_band(2, 111)), (32, (7936.0, 8064.0, 256.0)))
         self.refused(7, dfb.expand_band, 0x08)
+        self.refused(7, dfb.expand_band, 0xF5)
         self.refused(8, dfb.expand_sum, 0xFC02)
         self.refused(12, dfb.band_of, 3, 0)
         self.refused(12, dfb.describe_band, 0, 36)

@@ -305,13 +305,13 @@ pub fn band_of(setting: u8, bin: u16) -> Result<u8, Refusal> {
     answer(number.into(), REFUSED_8).map(|band| band as u8)
 }
 
-/// The band code of a value.
+/// The band code of a value: the nearer of the two neighbouring legal values, and the upper one halfway.
 pub fn compress_band(value: u32) -> u8 {
     // SAFETY: as in band_of.
     unsafe { ffi::dfb_compress_band(value) }
 }
 
-/// The value of a band code. Refusal 7.
+/// The value of a band code, at most 2^32. Refusal 7.
 pub fn expand_band(code: u8) -> Result<u64, Refusal> {
     // SAFETY: as in band_of.
     answer(unsafe { ffi::dfb_expand_band(code) }, REFUSED_63)

@@ -5,11 +5,12 @@ day-start: the first minute of a survey. Commands set processors 1 and 4 (36 ban
 has survey sets, and each report its SPEC set. The spectra are made by a small board here: a falling power law with a line at 1,600 Hz.
 bursts: the registers change to 112 bands for one processor, and Burst 1 sets stand between the survey's.
 damaged: day-start with one byte lost in the middle of a waveform set.
+rounded-down: a log as boards made it before version 0.5.0, with each of the 124 codes of then.
 """
 import os
 import struct
 
-from listing_model import BANDS, listing, stored
+from listing_model import BANDS, LEGAL, LEGAL_BEFORE, listing, stored, value
 
 HERE = os.path.join(os.path.dirname(os.path.abspath(__file__)), "..", "..", "samples")
 BINS = 1024
@@ -25,11 +26,8 @@ def band_of(size, k):
 
 
 def band_code(v):
-    """01, "The two codes": the least exponent at which the value fits three bits."""
-    e = 0
-    while v >> e > 7:
-        e += 1
-    return e << 3 | v >> e
+    """02, ticket 5: the nearest of all legal values, and the upper one halfway."""
+    return min(LEGAL, key=lambda code: (abs(v - value(code)), -value(code)))
 
 
 def power(processor, tick, k):
@@ -52,6 +50,10 @@ class Board:
 
     def second(self, seconds):
         self.log += b"\x03" + struct.pack(">I", seconds)
+
+    def spectra_words(self, codes):
+        for low, high in zip(codes[::2], codes[1::2]):
+            self.log += bytes([2, 0x4E, high, low])
 
     def samples(self, apid, values):
         for v in values:
@@ -79,9 +81,7 @@ class Board:
                 b = band_of(size, k)
                 widths[b] += 1
                 totals[b] += sum(s[n][k] for s in self.spectra)
-            codes = [band_code(t // (averaged * w)) for t, w in zip(totals, widths)]
-            for j in range(count // 2):
-                self.log += bytes([2, 0x4E, codes[2 * j + 1], codes[2 * j]])
+            self.spectra_words([band_code(t // (averaged * w)) for t, w in zip(totals, widths)])
 
 
 def survey(board, second):
@@ -116,10 +116,26 @@ def bursts():
     return board
 
 
+def rounded_down():
+    """Two processors of 64 bands: 124 codes, and the first four once more."""
+    board = Board()
+    board.command(0x30, 0x0060)
+    board.command(0x31, 0x0032)
+    board.second(1_204_500_000)
+    board.log += b"\x04"
+    board.spectra_words(LEGAL_BEFORE + LEGAL_BEFORE[:4])
+    return board
+
+
 def main():
     day = bytes(day_start().log)
     cut = day.index(b"\x02\x44") + 6
-    logs = {"day-start": day, "bursts": bytes(bursts().log), "damaged": day[:cut] + day[cut + 1:]}
+    logs = {
+        "day-start": day,
+        "bursts": bytes(bursts().log),
+        "damaged": day[:cut] + day[cut + 1:],
+        "rounded-down": bytes(rounded_down().log),
+    }
     for name, log in logs.items():
         with open(os.path.join(HERE, name + ".log"), "wb") as out:
             out.write(log)

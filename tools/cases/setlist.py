@@ -6,7 +6,7 @@ In the input each log stands after its length in two bytes, high byte first.
 import os
 import struct
 
-from listing_model import LEGAL, listing
+from listing_model import LEGAL, LEGAL_BEFORE, listing
 
 CRATE = os.path.join(os.path.dirname(os.path.abspath(__file__)), "..", "..", "crates", "setlist_cases")
 
@@ -24,7 +24,7 @@ def by_place(band):
     return LEGAL[band % len(LEGAL)]
 
 
-LARGEST = 0xEF
+LARGEST = 0xF4
 TICK = h("04")
 E_SVY = h("02430001 0243FFFF 02438000")
 SIX_OF_V_B1 = h("02470001 02470002 02470003 02470004 02470005 02470006")
@@ -55,7 +55,8 @@ CASES = [
      [SIX_OF_V_B1 + TICK, TICK + SIX_OF_V_B1 + E_SVY, SIX_OF_V_B1, 2 * SIX_OF_V_B1 + TICK, 2 * SIX_OF_V_B1, 7 * SIX_OF_V_B1 + TICK]),
     ("6", [h("024E0000")]),
     ("7: either byte, in the first word and in a later one",
-     [h("01300020 024E0800"), h("01300020 024E0008"), h("01300020") + spec(3, by_place) + h("024E00F4")]),
+     [h("01300020 024E0800"), h("01300020 024E0008"), h("01300020") + spec(3, by_place) + h("024E00F3")]
+     + [h("01300020 024E%02X00" % code) for code in (0xF5, 0xF6, 0xF7, 0xF8, 0xFC, 0xFF)]),
     ("9: kinds 00, 05 and FF", [h("00"), h("04 05"), h("FF")]),
     ("10: one byte too few of each kind", [h("01"), h("013000"), h("024300"), h("03000000")]),
     ("9 comes before 5", [h("02430001 05")]),
@@ -70,6 +71,8 @@ CASES = [
      [h("0130%04X" % (setting << 6 | 0x20)) + spec(words, by_place) for setting, words in ((0, 18), (1, 32), (2, 56))]),
     ("SPEC at 36, 64 and 112 bands, seven processors",
      [h("0130%04X" % (setting << 6 | 0x20)) + SEVEN + spec(7 * words, by_place) for setting, words in ((0, 18), (1, 32), (2, 56))]),
+    ("a log made before ticket 5: each of the 124 codes of then, two processors of 64 bands",
+     [h("01300060 01310020 04") + spec(64, lambda b: LEGAL_BEFORE[b % 124])]),
     ("SPEC of processors 2 and 7, then a tick", [h("01310032 01360020") + spec(36, by_place) + h("04")]),
     ("register changes between sets: bands, then a second processor",
      [h("01300060") + spec(32, lambda b: 0xEC) + h("01300021") + spec(18, lambda b: 5) + h("01350036") + spec(36, lambda b: b % 8)]),

@@ -1,9 +1,9 @@
 #!/usr/bin/env python3
 """vectors.py DOCUMENT: writes crates/vectors/stdout and crates/board_vectors/stdout, what these programs must print.
 
-Nothing here comes from the programs. The single numbers are those of 01, "Numbers on both sides", copied by hand. The band codes follow
-01's sentence on legal codes, and the cadences that on NCAD. The bands are the rows of tables 23, 24 and 25 of DOCUMENT, source document
-002 as text, with the centre half-way between the edges.
+Nothing here comes from the programs. The single numbers are those of 01, "Numbers on both sides", and of ticket 5, copied by hand. The
+band codes follow the sentences of 01 and ticket 5 on legal codes and on the nearest of them, and the cadences that on NCAD. The bands are
+the rows of tables 23, 24 and 25 of DOCUMENT, source document 002 as text, with the centre half-way between the edges.
 """
 import os
 import sys
@@ -13,8 +13,10 @@ from frequency_tables import rows
 CRATES = os.path.join(os.path.dirname(os.path.abspath(__file__)), "..", "..", "crates")
 
 NUMBERS = """\
-band code of 9 0c
+band code of 9 0d
+band code of 15 14
 band code of 16 14
+band code of 4294967295 f4
 sum code of 1023 03ff
 sum code fc00 0
 bin 0 4 4
@@ -40,22 +42,38 @@ def first_word(apid, code, value):
 def board():
     # a write of 0x0017 to 0x30, and its read
     yield from (f"stored {0x0003}", f"read {0x0003}")
-    # powers 8 and 11: a mean of 9.5, which prints as 8, in 18 words of 36 bands
-    yield from (*tick(COLLECTED, 8), *tick(REPORTED + 18, 0), *first_word(0x4E, 0x0C, 8), *tick(WAITING, 0))
+    # powers 8 and 11: a mean of 9.5, rounded down 9, which prints as 10, in 18 words of 36 bands
+    yield from (*tick(COLLECTED, 8), *tick(REPORTED + 18, 0), *first_word(0x4E, 0x0D, 10), *tick(WAITING, 0))
     # powers 0 and 1: a mean of 0.5, which prints as 0
     yield from (*tick(COLLECTED, 0), *tick(REPORTED + 18, 0), *first_word(0x4E, 0x00, 0), *tick(WAITING, 0))
-    # 4294967295 twice: the largest mean, which prints as 3758096384
+    # 4294967295 twice: the largest mean, which prints as 4294967296
     largest = 4294967295
-    yield from (*tick(COLLECTED, largest), *tick(REPORTED + 18, 0), *first_word(0x4E, 0xEF, 3758096384), *tick(WAITING, 0))
+    yield from (*tick(COLLECTED, largest), *tick(REPORTED + 18, 0), *first_word(0x4E, 0xF4, 4294967296), *tick(WAITING, 0))
     # no report yet: an output of zeros
     yield from (*tick(COLLECTED, 8), *tick(COLLECTED, 19), *first_word(0, 0, 0), *tick(COLLECTED, 30))
 
 
+def is_legal(code):
+    exponent, mantissa = code // 8, code % 8
+    return exponent == 0 or (1 <= exponent <= 29 and mantissa >= 4) or code == 0xF4
+
+
+LEGAL_VALUES = {code % 8 * 2 ** (code // 8): code for code in range(256) if is_legal(code)}
+assert len(LEGAL_VALUES) == 125
+
+
 def band_codes():
     for code in range(256):
-        exponent, mantissa = code // 8, code % 8
-        legal = exponent == 0 or (1 <= exponent <= 29 and mantissa >= 4)
-        yield f"band code {code:02x} " + (str(mantissa * 2**exponent) if legal else "refused 7")
+        yield f"band code {code:02x} " + (str(code % 8 * 2 ** (code // 8)) if is_legal(code) else "refused 7")
+
+
+def nearest_codes():
+    """0 to 17, and around each quarter of each step of the mantissa, one less and one more: the nearest of all legal values, the upper one
+    halfway."""
+    around = (quarters * 2**exponent + more for exponent in range(28) for quarters in range(16, 32) for more in (-1, 0, 1))
+    for v in (*range(18), *around):
+        nearest = min(LEGAL_VALUES, key=lambda value: (abs(v - value), -value))
+        yield f"band code of {v} {LEGAL_VALUES[nearest]:02x}"
 
 
 def cadences():
@@ -83,5 +101,5 @@ def write(crate, *parts):
 
 
 if __name__ == "__main__":
-    write("vectors", NUMBERS, band_codes(), cadences(), bands(sys.argv[1]))
+    write("vectors", NUMBERS, band_codes(), nearest_codes(), cadences(), bands(sys.argv[1]))
     write("board_vectors", board())

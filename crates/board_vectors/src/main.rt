@@ -1,5 +1,5 @@
-// Prints what the board answers for 01's numbers that are not starred: a write and a read, and powers through real ticks.
-// tools/cases/vectors.py writes the expected output, from 01. A refusal is printed as 1,000,000 and its number.
+// Prints what the board answers for 01's numbers that are not starred, as ticket 5 amends them: a write and a read, and powers through real
+// ticks. tools/cases/vectors.py writes the expected output, from 01 and ticket 5. A refusal is printed as 1,000,000 and its number.
 use codes::BandValue;
 use model::State;
 use model::TickAnswer;

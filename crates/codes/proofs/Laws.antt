@@ -1,6 +1,5 @@
--- The laws of the two codes that callers cite, each proved once over the mantissa width of suc t bits. Assumes nothing.
-use mathlib.Core.Path.{_≡_, refl, sym, ap, _∙_, subst}
-use mathlib.Core.Bool.{Bool, true, false, _&&_, _||_, or-true, false≢true}
+-- The laws of a code that is rounded down, each proved once over the mantissa width of suc t bits, and of the sum code. Assumes nothing.
+use mathlib.Core.Path.{_≡_, sym, ap, _∙_, subst}
 use mathlib.Core.Logic.{_⊎_, inl, inr}
 use Prim.Native.Nat.{ℕ, suc, _+_, _-_, _*_, _/_, _%_, _^_, _≤_, _<_, zero-le}
 use native.Mathlib.Nat.{zero-lt-suc, le-add-right, le-trans, le-of-eq, not-suc-le-zero, lt-of-not-le, not-le-of-lt, lt-of-le-of-lt, lt-of-lt-of-le, eq-or-lt-of-le, mul-one, suc-mul, mul-comm, mul-left-comm, mul-add, mul-div-cancel, mul-le-mul-left, mul-le-mul-right, mul-lt-mul-of-pos-left, mod-lt, lt-mul-div-succ, div-le-self, div-one, div-add-mod, mul-div-le, div-mul-le-self, pow-suc}
@@ -8,14 +7,10 @@ use native.Mathlib.Decide.{decLt}
 use native.Mathlib.Numerals.{add-one-le}
 use native.Mathlib.Omega.{arith}
 use lib.Pow.{pow-pos, pow-mono, pow-add, shr-mono, split, high, low}
-use lib.Dec.{leb, eqb}
-use borrow.Author.Tests.{lt-ltb, le-leb, leb-true, eqb-true}
-use Rattle.refusal.specs.Outcome.{given}
-use Rattle.refusal.proofs.Outcomes.{given-of}
-use Rattle.codes.specs.Code.{exponent, codeOf, valueOf, bandCode, bandValue, bandLegal, sumCode, sumValue}
-use Rattle.codes.specs.Expanded.{bandExpanded}
-use Rattle.codes.specs.Claims.{BandMeanBounds, BandMonotone, BandCodesLegal, BandCodesExpanded, LegalCodesReturn, LegalCodes, SumCodeBounds, SumCodesExpanded}
-use Rattle.codes.proofs.LeastExponent.{Least, least-lt, least-full, full-least, over-le, exponent-unique, exponent-le, exponent-least}
+use borrow.Author.Tests.{lt-ltb}
+use Rattle.codes.specs.Code.{exponent, codeOf, valueOf, sumCode, sumValue}
+use Rattle.codes.specs.Claims.{SumCodeBounds, SumCodesExpanded}
+use Rattle.codes.proofs.LeastExponent.{Least, least-lt, least-full, full-least, over-le, exponent-unique, exponent-least}
 
 -- ---- a code taken apart
 
@@ -28,7 +23,7 @@ unfolding codeOf
 code-mantissa t v = low (exponent (suc t) v) (suc t) (exponent-least (suc t) v .fitting)
 
 -- what the code of v stands for: v without the digits below the mantissa
-pub coded : ℕ → ℕ → ℕ
+unfoldable pub coded : ℕ → ℕ → ℕ
 coded w v = valueOf w (codeOf w v)
 
 pub coded-is : (t v : ℕ) → coded (suc t) v ≡ v / 2 ^ exponent (suc t) v * 2 ^ exponent (suc t) v
@@ -41,18 +36,18 @@ coded-le t v = le-trans (le-of-eq (coded-is t v)) (div-mul-le-self v (2 ^ expone
 -- ---- how far the value lies below what was coded
 
 -- the mantissa has its highest bit where the exponent is not 0
-full : (t v : ℕ) → 0 < exponent (suc t) v → 2 ^ t ≤ v / 2 ^ exponent (suc t) v
+pub full : (t v : ℕ) → 0 < exponent (suc t) v → 2 ^ t ≤ v / 2 ^ exponent (suc t) v
 full t v h = least-full t v (exponent (suc t) v) (exponent-least (suc t) v) h
 
 -- less than one step of the mantissa is lost, and at exponent 0 nothing
-step-lt : (t v : ℕ) → v < coded (suc t) v + 2 ^ exponent (suc t) v
+pub step-lt : (t v : ℕ) → v < coded (suc t) v + 2 ^ exponent (suc t) v
 step-lt t v = let e : ℕ = exponent (suc t) v in omega (arith, coded-is t v, split v e, mod-lt v (pow-pos e))
 
 unreduced : (t v : ℕ) → 0 ≡ exponent (suc t) v → coded (suc t) v ≡ v
 unreduced t v h = omega (arith, step-lt t v, coded-le t v, ap (λ (e : ℕ). 2 ^ e) (sym h))
 
 -- from 2 ^ t on one step of the mantissa is at most a 2 ^ t-th part of the value
-step-le : (t v : ℕ) → 2 ^ t ≤ v → 2 ^ t * 2 ^ exponent (suc t) v ≤ coded (suc t) v
+pub step-le : (t v : ℕ) → 2 ^ t ≤ v → 2 ^ t * 2 ^ exponent (suc t) v ≤ coded (suc t) v
 step-le t v big = go (eq-or-lt-of-le zero-le)
   where
     go : (0 ≡ exponent (suc t) v) ⊎ (0 < exponent (suc t) v) → 2 ^ t * 2 ^ exponent (suc t) v ≤ coded (suc t) v
@@ -154,68 +149,6 @@ code-of-value t c highest =
     ap (λ (x : ℕ). x * 2 ^ w + m * 2 ^ e / 2 ^ x) (exponent-unique w (m * 2 ^ e) e least)
     ∙ ap (λ (x : ℕ). e * 2 ^ w + x) is
     ∙ omega (arith, div-add-mod c (2 ^ w), mul-comm e (2 ^ w))
-
--- ---- the band code
-
-pub band-mean : BandMeanBounds
-unfolding bandCode bandValue coded
-band-mean d total pos = let s = coded-mean 2 d total pos in record { below = s .below; small = s .small; large = s .large }
-
-pub band-mono : BandMonotone
-unfolding bandCode bandValue coded
-band-mono v v′ h = coded-mono 2 v v′ h
-
-legal-if : (c : ℕ) → c / 8 ≤ 29 → (0 < c / 8 → 4 ≤ c % 8) → bandLegal c ≡ true
-unfolding bandLegal
-legal-if c small full = go (eq-or-lt-of-le zero-le)
-  where
-    go : (0 ≡ c / 8) ⊎ (0 < c / 8) → bandLegal c ≡ true
-    go (inl h) = simp (← h)
-    go (inr h) = simp (le-leb _ _ small, le-leb _ _ (full h), or-true)
-
--- what makes a code legal, and nothing else
-pub record Legal (c : ℕ) : Type 0 where
-  pub small : c / 8 ≤ 29
-  pub highest : 0 < c / 8 → 4 ≤ c % 8
-
-pub legal-of : (c : ℕ) → bandLegal c ≡ true → Legal c
-unfolding bandLegal
-legal-of c h = go (eqb (c / 8) 0) refl (leb (c / 8) 29) refl (leb 4 (c % 8)) refl h
-  where
-    go : (x : Bool) → eqb (c / 8) 0 ≡ x → (y : Bool) → leb (c / 8) 29 ≡ y → (z : Bool) → leb 4 (c % 8) ≡ z → x || (y && z) ≡ true → Legal c
-    go true p y q z r h = let none : c / 8 ≡ 0 = eqb-true (c / 8) 0 p in record { small = omega arith; highest = λ l. omega arith }
-    go false p true q true r h = record { small = leb-true _ _ q; highest = λ l. leb-true _ _ r }
-    go false p true q false r h = absurd (false≢true h)
-    go false p false q z r h = absurd (false≢true h)
-
-pub band-code-of-value : LegalCodesReturn
-unfolding bandCode bandValue
-band-code-of-value c h = code-of-value 2 c (legal-of c h .highest)
-
--- a legal code stands for a 32-bit value
-pub band-value-lt : (c : ℕ) → bandLegal c ≡ true → bandValue c < 2 ^ 32
-unfolding bandValue valueOf
-band-value-lt c h =
-    lt-of-le-of-lt (mul-le-mul-left (c % 8) (pow-mono {i = c / 8} {j = 29} (legal-of c h .small))) (omega arith)
-
-pub expanded-lt : (c v : ℕ) → given v ≡ bandExpanded c → v < 2 ^ 32
-expanded-lt c v is =
-    let g = given-of (bandLegal c) (bandValue c) v 7 is in
-    subst (λ (x : ℕ). x < 2 ^ 32) (sym (g .1)) (band-value-lt c (g .0))
-
-pub legal-codes : LegalCodes
-unfolding bandLegal
-legal-codes = refl
-
-pub band-legal : BandCodesLegal
-unfolding bandCode
-band-legal v h =
-    legal-if (codeOf 3 v)
-    (omega (arith, code-exponent 2 v, exponent-le 3 32 v h))
-    (λ p. omega (arith, code-mantissa 2 v, full 2 v (omega (arith, code-exponent 2 v))))
-
-pub band-expanded : BandCodesExpanded
-band-expanded v h = rw (band-legal v h)
 
 -- ---- the sum code
 

@@ -1,3 +1,4 @@
 pub mod LeastExponent
 pub mod Laws
+pub mod BandCode
 pub mod LegalWords

@@ -1,11 +1,12 @@
--- 01, "The two codes": what is claimed of the codes. Assumes nothing.
+-- 01, "The two codes", as 02's ticket 5 amends it: what is claimed of the codes. Assumes nothing.
 use mathlib.Core.Path.{_≡_}
 use mathlib.Core.Bool.{true, cond}
+use mathlib.Core.Logic.{_⊎_}
 use Prim.Native.Nat.{ℕ, zero, suc, _+_, _-_, _*_, _/_, _^_, _≤_, _<_}
 use Rattle.refusal.specs.Outcome.{given}
-use Rattle.codes.specs.Code.{fits, exponent, bandCode, bandValue, bandLegal, sumCode, sumValue}
+use Rattle.codes.specs.Code.{fits, exponent, distance, codeBelow, codeAbove, bandCode, bandValue, bandLegal, sumCode, sumValue}
 use Rattle.codes.specs.Expanded.{bandExpanded, sumExpanded}
-use Rattle.codes.specs.Bounds.{MeanBounds}
+use Rattle.codes.specs.Bounds.{MeanBounds, RoundedDownBounds}
 
 -- at every mantissa width the exponent is the least at which the value fits
 abbrev pub LeastExponent : Type 0
@@ -13,7 +14,28 @@ LeastExponent = (w v : ℕ) → (fits w v (exponent w v) ≡ true) × ((e : ℕ)
 
 -- ---- the band code
 
--- the code of a mean, rounded down, stands for a value within 01's bounds of the mean
+-- the legal values of the codes `below` and `above` are neighbours, and v lies between them
+pub record Neighbours (v below above : ℕ) : Type 0 where
+  pub below-legal : bandLegal below ≡ true
+  pub above-legal : bandLegal above ≡ true
+  pub not-over : bandValue below ≤ v
+  pub over : v < bandValue above
+  pub none-between : (c : ℕ) → bandLegal c ≡ true → (bandValue c ≤ bandValue below) ⊎ (bandValue above ≤ bandValue c)
+
+-- the code of a 32-bit value is chosen from its neighbours
+abbrev pub BandNeighbours : Type 0
+BandNeighbours = (v : ℕ) → v < 2 ^ 32 → Neighbours v (codeBelow v) (codeAbove v)
+
+-- no legal code is nearer to v than `code`, and at equal distance none is greater
+pub record Nearest (v code : ℕ) : Type 0 where
+  pub nearer : (c : ℕ) → bandLegal c ≡ true → distance v (bandValue code) ≤ distance v (bandValue c)
+  pub upper : (c : ℕ) → bandLegal c ≡ true → distance v (bandValue c) ≡ distance v (bandValue code) → bandValue c ≤ bandValue code
+
+-- ticket 5, of every value; with `BandCodesLegal` and `LegalCodesReturn` it settles the code of a 32-bit one
+abbrev pub BandNearest : Type 0
+BandNearest = (v : ℕ) → Nearest v (bandCode v)
+
+-- the code of the mean T/(N·W), rounded down, stands for a value within ticket 5's bounds of the mean
 abbrev pub BandMeanBounds : Type 0
 BandMeanBounds = (powers total : ℕ) → 0 < powers → MeanBounds powers total (bandValue (bandCode (total / powers)))
 
@@ -38,9 +60,13 @@ abbrev pub legalBelow : ℕ → ℕ
 legalBelow zero = 0
 legalBelow (suc n) = legalBelow n + cond (bandLegal n) 1 0
 
--- of the 256 codes 124 are legal
+-- 0xF4 is the 125th legal code, and the last of the 256
 abbrev pub LegalCodes : Type 0
-LegalCodes = legalBelow 256 ≡ 124
+LegalCodes = (legalBelow 0xF4 ≡ 124) × (bandLegal 0xF4 ≡ true) × (legalBelow 256 ≡ 125)
+
+-- the code below the mean, as logs made before version 0.5.0 have it, stands for a value within 01's own bounds of the mean
+abbrev pub RoundedDownMeans : Type 0
+RoundedDownMeans = (powers total : ℕ) → 0 < powers → RoundedDownBounds powers total (bandValue (codeBelow (total / powers)))
 
 -- ---- the sum code
 

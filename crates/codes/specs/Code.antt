@@ -1,7 +1,9 @@
--- 01, "The two codes": one rule over the mantissa width w, and the band code and the sum code as that rule at w = 3 and at w = 10.
-use mathlib.Core.Bool.{Bool, true, false, _&&_, _||_}
+-- 01, "The two codes", as 02's ticket 5 amends it: one rule over the mantissa width w, which rounds down. The sum code is that rule at
+-- w = 10. The band code chooses between two codes, the one that the rule gives at w = 3 and the one after it: the nearer to the value, and
+-- the upper one halfway.
+use mathlib.Core.Bool.{Bool, true, false, _&&_, _||_, cond}
 use mathlib.Core.List.{List, [], _∷_}
-use Prim.Native.Nat.{ℕ, zero, suc, _+_, _*_, _/_, _%_, _^_}
+use Prim.Native.Nat.{ℕ, zero, suc, _+_, _-_, _*_, _/_, _%_, _^_}
 use lib.Dec.{leb, ltb, eqb}
 
 -- The least of e, e + 1, .., e + d that passes the test, and e + d where none before it does. It counts upwards, so that the table of 1,024
@@ -18,7 +20,7 @@ fits w v e = ltb (v / 2 ^ e) (2 ^ w)
 unfoldable pub exponent : ℕ → ℕ → ℕ
 exponent w v = leastFrom (fits w v) v 0
 
--- The code of v: the exponent stands above the w bits of the mantissa.
+-- The code of v, rounded down: the exponent stands above the w bits of the mantissa.
 unfoldable pub codeOf : ℕ → ℕ → ℕ
 codeOf w v = exponent w v * 2 ^ w + v / 2 ^ exponent w v
 
@@ -28,15 +30,31 @@ valueOf w c = c % 2 ^ w * 2 ^ (c / 2 ^ w)
 
 -- ---- the band code: a 3-bit mantissa, for 32-bit values
 
-unfoldable pub bandCode : ℕ → ℕ
-bandCode v = codeOf 3 v
-
 unfoldable pub bandValue : ℕ → ℕ
 bandValue c = valueOf 3 c
 
--- Legal codes: e = 0, or e from 1 to 29 with m ≥ 4.
+-- Legal codes: e = 0, or e from 1 to 29 with m ≥ 4, or 0xF4, which stands for 2 ^ 32.
 unfoldable pub bandLegal : ℕ → Bool
-bandLegal c = eqb (c / 8) 0 || (leb (c / 8) 29 && leb 4 (c % 8))
+bandLegal c = eqb (c / 8) 0 || (leb (c / 8) 29 && leb 4 (c % 8)) || eqb c 0xF4
+
+-- The code after c: the next mantissa, and after m = 7 the m = 4 of the next exponent.
+abbrev pub codeAfter : ℕ → ℕ
+codeAfter c = cond (eqb (c % 8) 7) (c + 5) (c + 1)
+
+-- The codes of the two neighbouring legal values, below and above v (`Neighbours`, Claims.antt).
+abbrev pub codeBelow : ℕ → ℕ
+codeBelow v = codeOf 3 v
+
+abbrev pub codeAbove : ℕ → ℕ
+codeAbove v = codeAfter (codeBelow v)
+
+-- How far two numbers lie apart, whichever is the greater.
+abbrev pub distance : ℕ → ℕ → ℕ
+distance a b = (a - b) + (b - a)
+
+-- Ticket 5: the nearer of the two neighbouring legal values, and the upper one halfway.
+unfoldable pub bandCode : ℕ → ℕ
+bandCode v = cond (leb (distance v (bandValue (codeAbove v))) (distance v (bandValue (codeBelow v)))) (codeAbove v) (codeBelow v)
 
 -- ---- words of two band codes: both bytes of a SPEC word's 16 bits are legal, and so are those of each word of a list
 

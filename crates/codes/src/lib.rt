@@ -1,4 +1,4 @@
-// The band code (u32 to u8) and the sum code (u64 to u16): 01, "The two codes".
+// The band code (u32 to u8) and the sum code (u64 to u16): 01, "The two codes", with 02's ticket 5.
 ghost use mathlib.Core.Path.{_≡_};
 ghost use Rattle.codes.specs.Code.{exponent, bandCode, sumCode};
 ghost use Rattle.codes.specs.Expanded.{bandValueOutcome, bandExpanded, sumValueOutcome, sumExpanded};
@@ -24,13 +24,15 @@ pub fn exponent(v: u64, width: u32) -> u32
     if digits <= width { 0 } else { digits - width }
 }
 
-// The band code of a value.
+// The band code of a value: of the two neighbouring legal values the nearer, and the upper one halfway.
 pub fn compress_band(v: u32) -> u8
     ensures { λ r. ⌜ r ≡ bandCode v ⌝ }
 {
     let e = exponent(v as u64, 3);
-    let m = v >> e;
-    (e * 8 + m) as u8
+    // the mantissa in half steps, and the nearest whole one, where 8 is 4 at the next exponent
+    let halves = (v as u64 * 2) >> e;
+    let m = (halves + 1) / 2;
+    ((e as u64) * 8 + m + m / 8 * 4) as u8
 }
 
 // The sum code of a value.
@@ -51,7 +53,7 @@ pub fn expand_band(code: u8) -> BandValue
     if e == 0 {
         return BandValue::Value(m as u64);
     }
-    if 29 < e {
+    if 0xF4 < code {
         return BandValue::Refused(Refusal::IllegalBandCode);
     }
     if m < 4 {

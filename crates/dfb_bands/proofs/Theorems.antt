@@ -7,7 +7,7 @@ use borrow.Author.Tests.{leb-true}
 use lib.Dec.{leb}
 use Rattle.lists.proofs.Choices.{cond-at, both}
 use Rattle.codes.specs.Expanded.{bandExpanded, sumExpanded}
-use Rattle.codes.proofs.Laws.{expanded-lt}
+use Rattle.codes.proofs.BandCode.{expanded-le}
 use Rattle.bands.specs.Band.{sizeExponent, bandOf}
 use Rattle.bands.specs.Answer.{bandFound, bandDescribed, CadenceValue, rate, period, cadenceOf}
 use Rattle.bands.proofs.Settings.{band-lt}
@@ -29,7 +29,7 @@ band-of-apart setting bin =
     (λ e. refused-below above8 12))
 
 pub expand-band-apart : ExpandBandApart
-expand-band-apart code = told-apart above63 (bandExpanded code) (record { value = λ v e. omega (arith, expanded-lt code v (sym e)) })
+expand-band-apart code = told-apart above63 (bandExpanded code) (record { value = λ v e. omega (arith, expanded-le code v (sym e)) })
 
 pub expand-sum-apart : ExpandSumApart
 unfolding sumWritten

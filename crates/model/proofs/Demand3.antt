@@ -6,7 +6,7 @@ use lib.ListN.{length}
 use native.Mathlib.Nat.{le-trans, mul-pos, le-div-iff-mul-le, div-mul-le-self}
 use Rattle.codes.specs.Code.{bandCode, bandValue}
 use Rattle.codes.specs.Bounds.{MeanBounds}
-use Rattle.codes.proofs.Laws.{band-mean, band-mono}
+use Rattle.codes.proofs.BandCode.{band-mean, band-mono}
 use Rattle.bands.specs.Band.{sizeExponent}
 use Rattle.bands.proofs.Power.{width-pos}
 use Rattle.settings.specs.Settings.{settingOf, averagedSpectra}

@@ -14,7 +14,7 @@ use Rattle.lists.specs.Tables.{concatTo}
 use Rattle.lists.proofs.Choices.{by-cases, cond-related}
 use Rattle.lists.proofs.Sums.{sumTo-ones, sumTo-mul}
 use Rattle.codes.specs.Code.{bandCode, bandLegal, legalWord, legalWords}
-use Rattle.codes.proofs.Laws.{band-legal, legal-of}
+use Rattle.codes.proofs.BandCode.{band-legal, legal-of}
 use Rattle.codes.proofs.LegalWords.{legal-none, legal-more, legal-append}
 use Rattle.registers.specs.declared.Registers.{Registers}
 use Rattle.settings.specs.Settings.{enabledOf, wordsEach, specWords}

@@ -138,14 +138,14 @@ divided = refl
 first-mean : mean registers (spectraTotal registers spectra) 0 0 ≡ 9
 first-mean = rw (first-total, divided)
 
-code-of-9 : bandValue (bandCode 9) ≡ 8
+code-of-9 : bandValue (bandCode 9) ≡ 10
 unfolding leastFrom exponent codeOf valueOf bandCode bandValue
 code-of-9 = refl
 
 printed-band : ReportedBand (modelOf whole .registers) 0 0
 printed-band = subst (λ (m : Reference). ReportedBand (m .registers) 0 0) (sym second-model) first-band
 
-whole-value : printedValue (modelOf whole .registers) (performed whole .out) 0 0 ≡ 8
+whole-value : printedValue (modelOf whole .registers) (performed whole .out) 0 0 ≡ 10
 whole-value =
     let r = modelOf whole .registers in
     ap (λ (o : List ℕ). printedValue r o 0 0)

@@ -95,8 +95,8 @@ ResetBegun = Begun resetMemory
 abbrev pub SomeListReports : Type 0
 SomeListReports = (x : Run) × (sp : List (List ℕ)) × Reports x sp
 
--- some list averages, as in 01, "Numbers on both sides": a tick is collected, and the next one, after the same calls and this tick, reports
--- on two spectra; a band with a total of 19 is printed as 8
+-- some list averages, as in 01, "Numbers on both sides", and ticket 5: a tick is collected, and the next one, after the same calls and this
+-- tick, reports on two spectra; a band with a total of 19 is printed as 10
 pub record SomeListAverages : Type 0 where
   pub earlier : Run
   pub collects : entry (modelOf earlier) (inputOf (earlier .last)) .reply ≡ collected
@@ -110,4 +110,4 @@ pub record SomeListAverages : Type 0 where
   pub band : ℕ
   pub printed : ReportedBand (modelOf whole .registers) processor band
   pub total : spectraTotal (modelOf whole .registers) spectra processor band ≡ 19
-  pub value : printedValue (modelOf whole .registers) (performed whole .out) processor band ≡ 8
+  pub value : printedValue (modelOf whole .registers) (performed whole .out) processor band ≡ 10

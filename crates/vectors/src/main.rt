@@ -1,11 +1,14 @@
-// Prints what codes and bands answer for outside vectors: 01's numbers that are not starred, all 256 band codes, and every band of the
-// frequency tables. tools/cases/vectors.py writes the expected output, from 01 and document 002.
+// Prints what codes and bands answer for outside vectors: numbers of 01 and of ticket 5, all 256 band codes, the codes of values around
+// each quarter of a step of the mantissa, and every band of the frequency tables. tools/cases/vectors.py writes the expected output, from
+// 01, ticket 5 and document 002.
 use bands::BandDescription;
 use bands::BandIndex;
 use bands::Cadence;
 use codes::BandValue;
 use codes::SumValue;
 use refusal::Refusal;
+use std::num::wrapping_add_u32;
+use std::num::wrapping_sub_u32;
 
 mod show;
 
@@ -45,6 +48,34 @@ fn show_band_value(code: u8) {
 fn show_band_values() {
     for code in 0u16..256 {
         show_band_value(code as u8);
+    }
+}
+
+fn show_codes_around(value: u32) {
+    show_band_code(wrapping_sub_u32(value, 1));
+    show_band_code(value);
+    show_band_code(wrapping_add_u32(value, 1));
+}
+
+// The codes around each quarter of a step of the mantissa.
+fn show_quarters(exponent: u32) {
+    for quarters in 16u32..32 {
+        show_codes_around(quarters << exponent % 32);
+    }
+}
+
+fn show_small_codes() {
+    show_codes_around(1);
+    show_codes_around(4);
+    show_codes_around(7);
+    show_codes_around(10);
+    show_codes_around(13);
+    show_codes_around(16);
+}
+
+fn show_nearest_codes() {
+    for exponent in 0u32..28 {
+        show_quarters(exponent);
     }
 }
 
@@ -127,7 +158,9 @@ fn show_cadences() {
 
 fn main() {
     show_band_code(9);
+    show_band_code(15);
     show_band_code(16);
+    show_band_code(4294967295);
     show_sum_code(1023);
     show_sum_value(0xFC00);
     show_bin(0, 4);
@@ -137,6 +170,8 @@ fn main() {
     show_bin(2, 1024);
     show_bin(3, 0);
     show_band_values();
+    show_small_codes();
+    show_nearest_codes();
     show_cadences();
     show_descriptions(0, 37);
     show_descriptions(1, 65);

@@ -9,7 +9,7 @@ fn every_band_code() {
         assert_eq!(numbered(dfb::expand_band(code)), model::expand_band(code));
         dfb::expand_band(code).is_ok()
     });
-    assert_eq!(legal.count(), 124);
+    assert_eq!(legal.count(), 125);
 }
 
 /// Values around every power of two and every code's value, and random ones.
@@ -26,10 +26,26 @@ fn values(expand: impl Fn(u16) -> model::Answer<u64>) -> Vec<u64> {
 fn band_codes_of_values() {
     let mut all = values(|code| u8::try_from(code).map_err(|_| 7).and_then(model::expand_band));
     all.push(u32::MAX as u64);
+    // The middle between two neighbouring values, and beside it.
+    all.extend((0..31).flat_map(|e| [9, 11, 13, 15].map(|m| m << e)).flat_map(|middle: u64| [middle - 1, middle, middle + 1]));
     for value in all.into_iter().map(|value| value as u32) {
         let code = dfb::compress_band(value);
         assert_eq!(code, model::compress_band(value), "value {value}");
         assert!(model::is_within_bounds(value as u128, 1, dfb::expand_band(code).unwrap() as u128), "value {value}");
+    }
+}
+
+/// 02, ticket 5, over all legal codes: none is nearer, and at equal distance none is greater.
+#[test]
+fn nearest_of_all_legal_codes() {
+    let legal: Vec<u64> = (0..=0xFF).filter(|&code| model::is_legal(code)).map(model::band_value).collect();
+    let halves = legal.windows(2).map(|pair| (pair[0] + pair[1]) / 2);
+    let edges: Vec<u64> = halves.chain(legal.iter().copied()).flat_map(|edge| [edge.saturating_sub(1), edge, edge + 1]).collect();
+    let mut r = Random::new(4);
+    let random = seeds(20_000).map(|_| r.any_size() as u32 as u64);
+    for value in edges.into_iter().filter(|&value| value <= u32::MAX as u64).chain(random) {
+        let nearest = *legal.iter().min_by_key(|&&each| (each.abs_diff(value), u64::MAX - each)).unwrap();
+        assert_eq!(dfb::expand_band(dfb::compress_band(value as u32)), Ok(nearest), "value {value}");
     }
 }
 

@@ -117,7 +117,7 @@ pub fn damage(r: &mut Random, log: &mut Vec<u8>) {
     let place = r.below(log.len());
     match r.below(5) {
         0 => log[place] = r.next() as u8,
-        1 => log[place] = r.pick(&[0, 1, 2, 3, 4, 5, 0x2F, 0x30, 0x37, 0x42, 0x43, 0x4E, 0x08, 0xF4]),
+        1 => log[place] = r.pick(&[0, 1, 2, 3, 4, 5, 0x2F, 0x30, 0x37, 0x42, 0x43, 0x4E, 0x08, 0xF4, 0xF5]),
         2 => log.truncate(place),
         3 => {
             log.remove(place);
@@ -199,7 +199,7 @@ fn lengths_about_the_limit() {
     // The longest text for its length: 112 bands at the largest value.
     let mut log = vec![1, 0x30, 0, 0xB6];
     while log.len() + 4 * 56 <= 65536 {
-        (0..56).for_each(|_| log.extend([2, SPEC, 0xEF, 0xEF]));
+        (0..56).for_each(|_| log.extend([2, SPEC, 0xF4, 0xF4]));
     }
     compare_listing(&mut r, &log);
 }

@@ -1,4 +1,4 @@
-//! 01, "Numbers on both sides" and the whole case, copied by hand.
+//! 01, "Numbers on both sides" as the tickets amend it, and the whole case, copied by hand.
 use dfb::{Cadence, Refusal};
 
 #[test]
@@ -14,13 +14,14 @@ fn registers() {
 #[test]
 fn band_codes() {
     for (value, code, expanded) in
-        [(7, 0x07, 7), (8, 0x0C, 8), (9, 0x0C, 8), (15, 0x0F, 14), (16, 0x14, 16), (4294967295, 0xEF, 3758096384)]
+        [(7, 0x07, 7), (8, 0x0C, 8), (9, 0x0D, 10), (15, 0x14, 16), (16, 0x14, 16), (4294967295, 0xF4, 4294967296)]
     {
         assert_eq!(dfb::compress_band(value), code);
         assert_eq!(dfb::expand_band(code), Ok(expanded));
     }
-    assert_eq!(dfb::expand_band(0x08), Err(Refusal::IllegalBandCode));
-    assert_eq!(dfb::expand_band(0xF4), Err(Refusal::IllegalBandCode));
+    for code in [0x08, 0xF3, 0xF5, 0xF6, 0xF7, 0xF8, 0xFF] {
+        assert_eq!(dfb::expand_band(code), Err(Refusal::IllegalBandCode));
+    }
 }
 
 #[test]
@@ -59,10 +60,10 @@ fn cadences() {
     assert_eq!(dfb::cadence_of(11, &mut [0.0]), Err(Refusal::OutOfRange));
 }
 
-/// N = 2, a one-bin band: powers 8 and 11 print 8, powers 0 and 1 print 0.
+/// N = 2, a one-bin band: powers 8 and 11 print 10, powers 0 and 1 print 0.
 #[test]
 fn two_spectra() {
-    for (first, second, total, code, printed) in [(8, 11, 8, 0x0C, 8), (0, 1, 0, 0x00, 0)] {
+    for (first, second, total, code, printed) in [(8, 11, 8, 0x0D, 10), (0, 1, 0, 0x00, 0)] {
         let (mut state, mut totals, mut out) = ([0; dfb::STATE], [0; dfb::TOTALS], [0; dfb::OUTPUT]);
         assert_eq!(dfb::command(&mut state, &mut totals, 0x30, 0x1120), Ok(0x1120));
         let mut powers = [0; dfb::POWERS];
