@@ -20,7 +20,7 @@ pub record Small {A : Type 0} (f : Filled A) : Type 0 where
   pub fits : outcomeNumber above16 (f .answer) < 2 ^ 32
   pub below : Below above16 (f .answer)
 
-small-refusal : {A : Type 0} (n : ℕ) (buffer : List A) → n ≤ 13 → Small (unfilled n buffer)
+small-refusal : {A : Type 0} (n : ℕ) (buffer : List A) → n ≤ 5 → Small (unfilled n buffer)
 small-refusal n buffer h = record { fits = omega arith; below = refused-below above16 n }
 
 small-count : {A : Type 0} (n : ℕ) (buffer : List A) → n ≤ 21 → Small (record { answer = given n; buffer = buffer })
