@@ -27,9 +27,9 @@
 #include <stdint.h>
 
 /* The minor number rises with every function that is added or changed; the soname of libdfb.so is libdfb.so.MAJOR. */
-#define DFB_VERSION "0.5.0"
+#define DFB_VERSION "0.6.0"
 #define DFB_VERSION_MAJOR 0
-#define DFB_VERSION_MINOR 5
+#define DFB_VERSION_MINOR 6
 #define DFB_VERSION_PATCH 0
 
 #ifdef __cplusplus
@@ -126,29 +126,29 @@ static inline uint64_t dfb_refusal_offset(uint64_t answer)
 
 /* ---- the board ---- */
 
-/* A state is eight numbers: registers 0x30 to 0x36 and then the phase. Totals are 784 numbers. After reset all are 0: to reset the board,
- * set them to 0. Keep both as the last call left them.
+/* A state is nine numbers: registers 0x30 to 0x36, the phase, and the reports since the last accepted command, counted up to 65,535. Totals
+ * are 784 numbers. After reset all are 0: to reset the board, set them to 0. Keep both as the last call left them.
  *
  * The lengths that refusal 2 asks for: of the state, the totals and a tick's powers exactly, of its output at least. */
-#define DFB_STATE 8
+#define DFB_STATE 9
 #define DFB_TOTALS 784
 #define DFB_POWERS 7168
 #define DFB_OUTPUT 1176
 
-/* Sends a command to the register of an ID, 0x30 to 0x36: the value stored, or refusal 2, 3, 1. An accepted command sets the phase and all
- * totals to 0. Fields of the information: source 4:0, enable 5; in 0x30 also bins 7:6, NAVG 11:8 (N = 2^NAVG spectra are averaged) and NCAD
- * 15:12 (a period has C = 2^NCAD ticks). */
+/* Sends a command to the register of an ID, 0x30 to 0x36: the value stored, or refusal 2, 3, 1. An accepted command sets the phase, the
+ * number of reports and all totals to 0. Fields of the information: source 4:0, enable 5; in 0x30 also bins 7:6, NAVG 11:8 (N = 2^NAVG
+ * spectra are averaged) and NCAD 15:12 (a period has C = 2^NCAD ticks). */
 uint32_t dfb_command(uint16_t *state, size_t state_len, uint64_t *totals, size_t totals_len, uint8_t id, uint16_t information);
 
 /* Reads a register: its value, or refusal 2 for the state's length, 3 for its registers, 1. */
 uint32_t dfb_read(const uint16_t *state, size_t state_len, uint8_t id);
 
 /* Accepted answers of dfb_tick: no processor is enabled or N is above C; the powers were added; the report of this period was made before.
- * A report is DFB_REPORTED plus its number of words: use dfb_report_words. */
+ * A report is DFB_REPORTED + 65536 * words + number: dfb_report_words and dfb_report_number take it apart. */
 #define DFB_IDLE 0u
 #define DFB_COLLECTED 1u
 #define DFB_WAITING 2u
-#define DFB_REPORTED 0x20000u
+#define DFB_REPORTED 0x80000000u
 
 /* One tick with 7 rows of 1,024 powers, or refusal 2, 3. A report writes 3 bytes for each word from the start of out. */
 uint32_t dfb_tick(uint16_t *state, size_t state_len, uint64_t *totals, size_t totals_len, const uint32_t *powers, size_t powers_len,
@@ -157,7 +157,14 @@ uint32_t dfb_tick(uint16_t *state, size_t state_len, uint64_t *totals, size_t to
 /* The words of the report that an answer of dfb_tick is; 0 where it is no report. */
 static inline unsigned dfb_report_words(uint32_t answer)
 {
-    return answer < DFB_REPORTED ? 0u : (unsigned)(answer - DFB_REPORTED);
+    return answer < DFB_REPORTED ? 0u : (unsigned)(answer - DFB_REPORTED) >> 16;
+}
+
+/* The number of that report, which is the state's: 1 for the first since the last accepted command, and 65,535 from the 65,535th on; 0 where
+ * it is no report. */
+static inline unsigned dfb_report_number(uint32_t answer)
+{
+    return answer < DFB_REPORTED ? 0u : (unsigned)(answer & 0xFFFFu);
 }
 
 /* ---- words and sets ---- */

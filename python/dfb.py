@@ -7,10 +7,11 @@ of an installation.
 import array
 import ctypes
 import os
+import typing
 
-__version__ = "0.5.0"
+__version__ = "0.6.0"
 
-STATE, TOTALS, POWERS, OUTPUT = 8, 784, 7168, 1176
+STATE, TOTALS, POWERS, OUTPUT = 9, 784, 7168, 1176
 RECORD, MOST_WORDS = 3, 7
 END, COMMAND, WORD, SECOND_MARK, TICK = 0, 1, 2, 3, 4
 FREE, HELD, SENDING = 0, 1, 2
@@ -120,8 +121,17 @@ def _below_63(answer):
     return _answer_below(1 << 63, answer)
 
 
+class Report(typing.NamedTuple):
+    """A report: its words as bytes, three for each, and its number: 1 for the first since the last accepted command, and 65,535 from the
+    65,535th on."""
+
+    words: bytes
+    number: int
+
+
 class Board:
-    """A board after reset. Its state (registers 0x30 to 0x36 and the phase) and totals are kept here between the calls."""
+    """A board after reset. Its state (registers 0x30 to 0x36, the phase, and the reports since the last accepted command) and totals are
+    kept here between the calls."""
 
     def __init__(self):
         self.state = (U16 * STATE)()
@@ -136,11 +146,11 @@ class Board:
         return _below_16(_library.dfb_read(self.state, STATE, _number(ident, 8)))
 
     def tick(self, powers):
-        """One tick with 7 rows of 1,024 powers: "idle", "collected", "waiting", or a report's words as bytes."""
+        """One tick with 7 rows of 1,024 powers: "idle", "collected", "waiting", or a Report."""
         powers, out = _numbers("I", U32, powers), (U8 * OUTPUT)()
         answer = _library.dfb_tick(self.state, STATE, self.totals, TOTALS, powers, len(powers), out, OUTPUT)
-        if answer >= 0x20000:
-            return bytes(out[: 3 * (answer - 0x20000)])
+        if answer >= 0x80000000:
+            return Report(bytes(out[: 3 * (answer - 0x80000000 >> 16)]), answer & 0xFFFF)
         return ("idle", "collected", "waiting")[_below_16(answer)]
 
 
@@ -273,9 +283,10 @@ if __name__ == "__main__":
     for power in (8, 11):
         report = board.tick([power] * POWERS)
         used = append(log, used, TICK)
-    print("reported %d words" % (len(report) // 3))
-    for at in range(0, len(report), 3):
-        used = append(log, used, WORD, report[at], report[at + 1] << 8 | report[at + 2])
+    print("report %d has %d words" % (report.number, len(report.words) // 3))
+    for at in range(0, len(report.words), 3):
+        apid, high, low = report.words[at : at + 3]
+        used = append(log, used, WORD, apid, high << 8 | low)
     print("band 0 starts at %g Hz, has its centre at %g Hz and is %g Hz wide" % describe_band(0, 0))
     print(listing(log[:used]), end="")
     try:

@@ -188,14 +188,15 @@ static void test_read(void)
         CHECK(command((uint8_t)(0x30 + n), (uint16_t)n) == n);
     for (unsigned n = 0; n < 7; n++)
         ACCEPTED_32(n, NULL, 0, dfb_read(state, DFB_STATE, (uint8_t)(0x30 + n)));
-    CHECK(command(0x30, 0x6363) == 0x6363);
-    ACCEPTED_32(0x6363u, NULL, 0, dfb_read(state, DFB_STATE, 0x30));
+    CHECK(command(0x30, 0x6343) == 0x6343);
+    ACCEPTED_32(0x6343u, NULL, 0, dfb_read(state, DFB_STATE, 0x30));
     REFUSED_32(1u, dfb_read(state, DFB_STATE, 0x2F));
     REFUSED_32(1u, dfb_read(state, DFB_STATE, 0x37));
     REFUSED_32(2u, dfb_read(state, DFB_STATE - 1, 0x37));
     REFUSED_32(2u, dfb_read(NULL, 0, 0x30));
-    state[7] = 9; /* a read looks at registers only */
-    ACCEPTED_32(0x6363u, NULL, 0, dfb_read(state, DFB_STATE, 0x30));
+    state[7] = 9; /* not running, so neither is sound; a read looks at registers only */
+    state[8] = 9;
+    ACCEPTED_32(0x6343u, NULL, 0, dfb_read(state, DFB_STATE, 0x30));
     state[3] = 0x0017;
     REFUSED_32(3u, dfb_read(state, DFB_STATE, 0x30));
     REFUSED_32(3u, dfb_read(state, DFB_STATE, 0x37));
@@ -210,22 +211,56 @@ static void test_tick(void)
     CHECK(command(0x30, 0x1120) == 0x1120);
     powers[0] = 8;
     CHECK(tick(DFB_OUTPUT + 5) == DFB_COLLECTED);
-    CHECK(dfb_refusal_u32(DFB_COLLECTED) == 0 && dfb_report_words(DFB_COLLECTED) == 0);
-    CHECK(totals[0] == 8 && totals[1] == 0 && state[7] == 1);
+    CHECK(dfb_refusal_u32(DFB_COLLECTED) == 0 && dfb_report_words(DFB_COLLECTED) == 0 && dfb_report_number(DFB_COLLECTED) == 0);
+    CHECK(totals[0] == 8 && totals[1] == 0 && state[7] == 1 && state[8] == 0);
     powers[0] = 11;
     remember();
     uint32_t answer = tick(DFB_OUTPUT + 5);
-    CHECK(answer == DFB_REPORTED + 18);
-    CHECK(dfb_refusal_u32(answer) == 0 && dfb_report_words(answer) == 18);
+    CHECK(answer == 0x80120001u);
+    CHECK(dfb_refusal_u32(answer) == 0 && dfb_report_words(answer) == 18 && dfb_report_number(answer) == 1);
     CHECK(out[0] == 0x4E && out[1] == 0x00 && out[2] == 0x0D && out[3] == 0x4E && out[4] == 0 && out[5] == 0);
     CHECK(memcmp(out + 54, lists[3].before + 54, DFB_OUTPUT + 5 - 54) == 0);
-    CHECK(totals[0] == 0 && state[7] == 0);
+    CHECK(totals[0] == 0 && state[7] == 0 && state[8] == 1);
 
     /* N = 1, C = 2: reported, then waiting */
     CHECK(command(0x30, 0x1020) == 0x1020);
     CHECK(dfb_report_words(tick(DFB_OUTPUT)) == 18);
     ACCEPTED_32(DFB_WAITING, state, DFB_STATE * sizeof *state, tick(DFB_OUTPUT));
-    CHECK(dfb_report_words(DFB_WAITING) == 0);
+    CHECK(dfb_report_words(DFB_WAITING) == 0 && dfb_report_number(DFB_WAITING) == 0 && state[8] == 1);
+}
+
+/* Reports since the last accepted command: N = C = 1, so that each tick reports. */
+static void test_report_numbers(void)
+{
+    make_board(DFB_OUTPUT);
+    CHECK(command(0x30, 0x0020) == 0x0020);
+    for (unsigned report = 1; report <= 65540; report++) {
+        unsigned number = report < 65535 ? report : 65535;
+        uint32_t answer = tick(DFB_OUTPUT);
+        CHECK(dfb_report_words(answer) == 18 && dfb_report_number(answer) == number && state[8] == number && dfb_refusal(answer) == 0);
+        if (report % 9362 == 0) { /* and a refused command keeps the number */
+            REFUSED_32(1u, command(0x37, 0));
+            REFUSED_32(2u, dfb_command(state, DFB_STATE, totals, DFB_TOTALS - 1, 0x30, 0x0020));
+        }
+    }
+    ACCEPTED_32(0x0020u, state, DFB_STATE * sizeof *state, command(0x30, 0x0020)); /* the same value */
+    CHECK(state[0] == 0x0020 && state[8] == 0);
+    CHECK(dfb_report_number(tick(DFB_OUTPUT)) == 1);
+    ACCEPTED_32(0x0000u, state, DFB_STATE * sizeof *state, command(0x36, 0x0000)); /* of another register */
+    CHECK(state[8] == 0);
+    CHECK(dfb_report_number(tick(DFB_OUTPUT)) == 1);
+
+    /* any number is sound when running, and 0 when not */
+    state[8] = 65533;
+    CHECK(tick(DFB_OUTPUT) == 0x8012FFFEu);
+    ACCEPTED_32(0x0000u, state, DFB_STATE * sizeof *state, command(0x30, 0x0000));
+    ACCEPTED_32(DFB_IDLE, NULL, 0, tick(DFB_OUTPUT));
+    state[8] = 1;
+    REFUSED_32(3u, tick(DFB_OUTPUT));
+    REFUSED_32(3u, command(0x30, 0x0020));
+    REFUSED_32(3u, command(0x37, 0x0020));
+    REFUSED_32(2u, tick(DFB_OUTPUT - 1));
+    CHECK(dfb_report_number(tick(DFB_OUTPUT)) == 0 && dfb_report_number(tick(DFB_OUTPUT - 1)) == 0);
 }
 
 /* Reports of every size. */
@@ -576,7 +611,10 @@ static void test_bases(void)
     CHECK(dfb_refusal_u32(0x20001u) == 0 && dfb_refusal_u32(0x30001u) == 0 && dfb_refusal_u32(0x80010001u) == 0);
     CHECK(dfb_refusal_u32(0x2010019u) == 25 && dfb_offer_looked(0x2010019u) == 32);
     CHECK(dfb_refusal_u64(DFB_REFUSED_63 - 1) == 0 && dfb_refusal_u64(DFB_REFUSED_63 + 99) == 99);
-    CHECK(dfb_report_words(DFB_REPORTED + 392) == 392 && dfb_report_words(DFB_REPORTED - 1) == 0);
+    CHECK(DFB_STATE == 9 && DFB_REPORTED == 0x80000000u);
+    CHECK(dfb_report_words(DFB_REPORTED + 65536 * 392) == 392 && dfb_report_words(DFB_REPORTED - 1) == 0);
+    CHECK(dfb_report_number(DFB_REPORTED + 65536 * 392 + 65535) == 65535 && dfb_report_number(DFB_REPORTED - 1) == 0);
+    CHECK(dfb_report_words(DFB_REPORTED + 65536 * 18 + 65535) == 18 && dfb_refusal_u32(DFB_REPORTED + 65536 * 392 + 65535) == 0);
     CHECK(dfb_offer_slot(0x20FFFFFu) == 0xFFFF && dfb_interval_first(0x12345678u) == 0x5678 && dfb_interval_last(0x12345678u) == 0x1234);
 }
 
@@ -633,7 +671,7 @@ static void test_side_by_side(void)
     static struct bench alone, beside[THREADS];
     pthread_t threads[THREADS];
     run_board(&alone);
-    CHECK(alone.answers != 0 && alone.state[7] == 0);
+    CHECK(alone.answers != 0 && alone.state[7] == 0 && alone.state[8] == SPECTRA / 8);
     for (unsigned i = 0; i < THREADS; i++)
         CHECK(pthread_create(&threads[i], NULL, run_board, &beside[i]) == 0);
     for (unsigned i = 0; i < THREADS; i++) {
@@ -651,6 +689,7 @@ static const struct test {
     {"read", test_read},
     {"tick", test_tick},
     {"reports", test_reports},
+    {"report numbers", test_report_numbers},
     {"tick refused", test_tick_refused},
     {"sets", test_sets},
     {"append", test_append},

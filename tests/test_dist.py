@@ -92,14 +92,14 @@ class Dist(Tools):
 
     def test_readme_c(self):
         self.need("cc")
-        self.assertEqual(self.run_as_written("C", "example.c", "README.md"), "18 words\n")
-        self.compile_and_run("cc", C99, example("C", "README.md"), "18 words\n")
+        self.assertEqual(self.run_as_written("C", "example.c", "README.md"), "report 1: 18 words\n")
+        self.compile_and_run("cc", C99, example("C", "README.md"), "report 1: 18 words\n")
 
     def test_readme_cpp(self):
-        self.compile_and_run("c++", CPP17, example("C", "README.md"), "18 words\n")
+        self.compile_and_run("c++", CPP17, example("C", "README.md"), "report 1: 18 words\n")
 
     def test_readme_python(self):
-        self.assertEqual(self.run_as_written("Python", "example.py", "README.md"), repr(b"N\0\0" * 18) + "\n")
+        self.assertEqual(self.run_as_written("Python", "example.py", "README.md"), "Report(words=%r, number=1)\n" % (b"N\0\0" * 18))
 
     def test_handbook(self):
         self.need("cc", "pkg-config")

@@ -171,7 +171,7 @@ def rattle_constants(texts):
     constants["DFB_REFUSED_63"] = number(one(r"(\w+) \+ refusal::number\(refusal\) as u64", texts["dfb_refusals"]))
     for name in ("Idle", "Collected", "Waiting"):
         constants["DFB_" + name.upper()] = number(one(r"TickAnswer::%s => (\w+)," % name, texts["dfb_board"]))
-    constants["DFB_REPORTED"] = number(one(r"TickAnswer::Reported\(words\) => (\w+) \+ words", texts["dfb_board"]))
+    constants["DFB_REPORTED"] = number(one(r"TickAnswer::Reported\(words\) => (\w+) \+ words as u32 \* 65536 \+ reports", texts["dfb_board"]))
     words = {int(apid, 16): int(count) for apid, count in re.findall(r"(0x\w+) => SetWords::Count\((\d+)\)", texts["words"])}
     constants.update({"DFB_APID_" + name: apid for name, apid in APIDS.items() if apid in words})
     constants["DFB_APID_SPEC"] = rattle_constant(texts["words"], "SPEC")
@@ -255,6 +255,8 @@ WRONG_EDITS = [
     # an answer's type, constants, swapped parameters, constness, a function that is missing
     ("header", "uint32_t dfb_pack(", "uint64_t dfb_pack("),
     ("header", "#define DFB_OUTPUT 1176", "#define DFB_OUTPUT 1167"),
+    ("header", "#define DFB_STATE 9", "#define DFB_STATE 8"),
+    ("header", "#define DFB_REPORTED 0x80000000u", "#define DFB_REPORTED 0x20000u"),
     ("header", "#define DFB_REFUSED_8 0x100u", "#define DFB_REFUSED_8 0x10000u"),
     ("header", "uint32_t bonus, uint32_t limit", "uint32_t limit, uint32_t bonus"),
     ("header", "uint8_t setting, uint8_t band", "uint8_t band, uint8_t setting"),
@@ -277,6 +279,8 @@ WRONG_EDITS = [
     ("rust", "information: u16) -> u32;", "information: u16) -> u64;"),
     ("rust", "bonus: u32, limit: u32) -> u64;", "limit: u32, bonus: u32) -> u64;"),
     ("rust", "pub const OUTPUT: usize = 1176", "pub const OUTPUT: usize = 1175"),
+    ("rust", "pub const STATE: usize = 9", "pub const STATE: usize = 8"),
+    ("rust", "const REPORTED: u32 = 0x8000_0000", "const REPORTED: u32 = 0x2_0000"),
     ("rust", "AlreadySending = 27,", "AlreadySending = 28,"),
     ("rust", '"a slot is already sending"', '"a slot is sending"'),
     ("python", '("expand_band", U64,', '("expand_band", U32,'),
@@ -284,7 +288,7 @@ WRONG_EDITS = [
     ("python", '("command", U32, _list(U16) + _list(U64)', '("command", U32, _list(U64) + _list(U16)'),
     ("python", "SECOND_MARK, TICK = 0, 1, 2, 3, 4", "TICK, SECOND_MARK = 0, 1, 2, 3, 4"),
     ("python", '27: "a slot is already sending"', '27: "no slot is sending"'),
-    ("python", "STATE, TOTALS, POWERS, OUTPUT = 8, 784,", "STATE, TOTALS, POWERS, OUTPUT = 9, 784,"),
+    ("python", "STATE, TOTALS, POWERS, OUTPUT = 9, 784,", "STATE, TOTALS, POWERS, OUTPUT = 8, 784,"),
 ]
 
 # Each inline function, wrong; the program tests/interface.c finds it.
@@ -294,7 +298,11 @@ WRONG_INLINE = [
     ("(answer & 0x800F0000u) == DFB_REFUSED_16", "answer - DFB_REFUSED_16 < 100u"),
     ("? 0u : (unsigned)(answer & 0xFFu)", "? 0u : (unsigned)(answer & 0x1Fu)"),
     ("(answer & ~DFB_REFUSED_63) >> 8", "answer >> 8"),
-    ("answer < DFB_REPORTED ? 0u", "answer < DFB_REFUSED_16 ? 0u"),
+    ("answer < DFB_REPORTED ? 0u : (unsigned)(answer - DFB_REPORTED) >> 16", "(unsigned)(answer - DFB_REPORTED) >> 16"),
+    ("(unsigned)(answer - DFB_REPORTED) >> 16", "(unsigned)(answer - DFB_REPORTED)"),
+    ("(unsigned)(answer - DFB_REPORTED) >> 16", "(unsigned)(answer >> 16)"),
+    ("answer < DFB_REPORTED ? 0u : (unsigned)(answer & 0xFFFFu)", "(unsigned)(answer & 0xFFFFu)"),
+    ("answer < DFB_REPORTED ? 0u : (unsigned)(answer & 0xFFFFu)", "answer < DFB_REPORTED ? 0u : (unsigned)(answer & 0x7FFFu)"),
     ("(unsigned)(answer >> 20)", "(unsigned)(answer >> 16)"),
     ("(unsigned)(answer & 0xFFFFu);\n}\n\n/* The number of slots", "(unsigned)(answer & 0xFFu);\n}\n\n/* The number of slots"),
     ("(unsigned)(answer >> 16 & 0xFFFFu)", "(unsigned)(answer >> 16 & 0xFFFu)"),

@@ -13,7 +13,7 @@ import dfb  # noqa: E402
 
 EXAMPLE = """\
 stored 0x1120
-reported 18 words
+report 1 has 18 words
 band 0 starts at 0 Hz, has its centre at 4 Hz and is 8 Hz wide
 DFB LOG 1
 C 30 1120
@@ -41,17 +41,37 @@ class Python(unittest.TestCase):
         self.assertEqual(board.command(0x30, 0xFFFF), 0x6363)
         self.assertEqual(board.read(0x30), 0x6363)
         self.assertEqual(board.command(0x30, 0x1020), 0x1020)
-        self.assertEqual(board.tick([9] * dfb.POWERS), bytes([0x4E, 0x0D, 0x0D]) * 18)
+        self.assertEqual(board.tick([9] * dfb.POWERS), dfb.Report(bytes([0x4E, 0x0D, 0x0D]) * 18, 1))
         self.assertEqual(board.tick([9] * dfb.POWERS), "waiting")
+        self.assertEqual(board.tick([9] * dfb.POWERS).number, 2)
         self.assertEqual(board.command(0x30, 0x1120), 0x1120)
         self.assertEqual(board.tick([9] * dfb.POWERS), "collected")
         for number in range(7):
             board.command(0x30 + number, 0x00A0)
-        self.assertEqual(board.tick([9] * dfb.POWERS), bytes([0x4E, 0x0D, 0x0D]) * 392)
+        report = board.tick([9] * dfb.POWERS)
+        self.assertEqual((report.words, report.number), (bytes([0x4E, 0x0D, 0x0D]) * 392, 1))
         self.refused(2, board.tick, [0])
         self.refused(1, board.read, 0x37)
         board.state[7] = 9
         self.refused(3, board.command, 0x30, 0)
+
+    def test_report_numbers(self):
+        board = dfb.Board()
+        board.command(0x30, 0x0020)
+        powers = [0] * dfb.POWERS
+        self.assertEqual([board.tick(powers).number for _ in range(3)], [1, 2, 3])
+        self.refused(1, board.command, 0x37, 0x0020)
+        self.assertEqual(board.tick(powers).number, 4)
+        board.state[8] = 65533
+        self.assertEqual([board.tick(powers).number for _ in range(3)], [65534, 65535, 65535])
+        self.assertEqual(board.command(0x30, 0x0020), 0x0020)
+        self.assertEqual(board.tick(powers).number, 1)
+        board.command(0x30, 0)
+        self.assertEqual((board.tick(powers), board.state[8]), ("idle", 0))
+        board.state[8] = 1
+        self.refused(3, board.tick, powers)
+        self.refused(3, board.command, 0x30, 0x0020)
+        self.assertEqual((board.state[8], board.read(0x30)), (1, 0))
 
     def test_sets(self):
         samples = [1, -1, -32768]
@@ -178,7 +198,7 @@ class Python(unittest.TestCase):
             (dfb.choose_interval, ([1], 0, 2**32)),
         ):
             self.assertRaises(OverflowError, function, *arguments)
-        self.assertEqual(bytes(board.state), bytes(16))
+        self.assertEqual(bytes(board.state), bytes(2 * dfb.STATE))
 
 
 class Library(unittest.TestCase):

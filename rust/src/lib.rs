@@ -8,15 +8,15 @@
 //! board.command(0x30, 0x0020)?;
 //! let mut out = [0u8; dfb::OUTPUT];
 //! let answer = board.tick(&[0; dfb::POWERS], &mut out)?;
-//! assert_eq!(answer, dfb::Tick::Reported(18));
+//! assert_eq!(answer, dfb::Tick::Reported(dfb::Report { words: 18, number: 1 }));
 //! assert_eq!(board.read(0x30)?, 0x0020);
 //! assert_eq!(board.command(0x37, 0), Err(dfb::Refusal::UnknownCommand));
 //! # Ok::<(), dfb::Refusal>(())
 //! ```
 use std::fmt;
 
-/// The length of a state: registers 0x30 to 0x36, then the phase. All 0 after reset.
-pub const STATE: usize = 8;
+/// The length of a state: registers 0x30 to 0x36, the phase, and the reports since the last accepted command. All 0 after reset.
+pub const STATE: usize = 9;
 /// The length of the totals. All 0 after reset.
 pub const TOTALS: usize = 784;
 /// The length of a tick's powers: 7 rows of 1,024.
@@ -108,14 +108,22 @@ impl fmt::Display for Refusal {
 
 impl std::error::Error for Refusal {}
 
+/// A report.
+#[derive(Clone, Copy, Debug, PartialEq, Eq)]
+pub struct Report {
+    /// How many words of three bytes were written.
+    pub words: usize,
+    /// 1 for the first report since the last accepted command, and 65,535 from the 65,535th on.
+    pub number: u16,
+}
+
 /// What a tick did.
 #[derive(Clone, Copy, Debug, PartialEq, Eq)]
 pub enum Tick {
     Idle,
     Collected,
     Waiting,
-    /// A report was written: so many words of three bytes.
-    Reported(usize),
+    Reported(Report),
 }
 
 /// What the number of a cadence is.
@@ -207,8 +215,8 @@ impl Board {
 const REFUSED_8: u64 = 0x100;
 const REFUSED_16: u64 = 0x1_0000;
 const REFUSED_63: u64 = 1 << 63;
-// A report's number of words is added to this.
-const REPORTED: u32 = 0x2_0000;
+// A report is this, 65,536 for each word, and its number.
+const REPORTED: u32 = 0x8000_0000;
 
 /// An answer below `refused`, or the refusal whose number is above it.
 fn answer(number: u64, refused: u64) -> Result<u64, Refusal> {
@@ -219,7 +227,7 @@ fn answer(number: u64, refused: u64) -> Result<u64, Refusal> {
     }
 }
 
-/// Sends a command: the value stored. Refusals 2, 3, 1.
+/// Sends a command: the value stored. Phase, number of reports and totals become 0. Refusals 2, 3, 1.
 pub fn command(state: &mut [u16], totals: &mut [u64], id: u8, information: u16) -> Result<u16, Refusal> {
     // SAFETY: each pointer is valid for its length, and no two slices overlap. So it is in each call below.
     let number = unsafe { ffi::dfb_command(state.as_mut_ptr(), state.len(), totals.as_mut_ptr(), totals.len(), id, information) };
@@ -249,7 +257,7 @@ pub fn tick(state: &mut [u16], totals: &mut [u64], powers: &[u32], out: &mut [u8
         )
     };
     if number >= REPORTED {
-        return Ok(Tick::Reported((number - REPORTED) as usize));
+        return Ok(Tick::Reported(Report { words: ((number - REPORTED) >> 16) as usize, number: number as u16 }));
     }
     match answer(number.into(), REFUSED_16)? {
         0 => Ok(Tick::Idle),

@@ -1,7 +1,7 @@
 #!/usr/bin/env python3
 """vectors.py DOCUMENT: writes crates/vectors/stdout and crates/board_vectors/stdout, what these programs must print.
 
-Nothing here comes from the programs. The single numbers are those of 01, "Numbers on both sides", and of ticket 5, copied by hand. The
+Nothing here comes from the programs. The single numbers are those of 01, "Numbers on both sides", and of tickets 5 and 13, copied by hand. The
 band codes follow the sentences of 01 and ticket 5 on legal codes and on the nearest of them, and the cadences that on NCAD. The bands are
 the rows of tables 23, 24 and 25 of DOCUMENT, source document 002 as text, with the centre half-way between the edges.
 """
@@ -27,7 +27,7 @@ bin 2 1024 refused 12
 bin 3 0 refused 12""".split("\n")
 
 
-COLLECTED, WAITING, REPORTED = 1, 2, 1000
+IDLE, COLLECTED, WAITING, REPORTED, REFUSED = 0, 1, 2, 1000, 1_000_000
 
 
 def tick(answer, total):
@@ -51,6 +51,30 @@ def board():
     yield from (*tick(COLLECTED, largest), *tick(REPORTED + 18, 0), *first_word(0x4E, 0xF4, 4294967296), *tick(WAITING, 0))
     # no report yet: an output of zeros
     yield from (*tick(COLLECTED, 8), *tick(COLLECTED, 19), *first_word(0, 0, 0), *tick(COLLECTED, 30))
+    yield from numbers()
+
+
+def numbered(kind, answer, number):
+    return f"{kind} {answer}", f"number {number}"
+
+
+def numbers():
+    """Ticket 13: reports since the last accepted command, from 0, staying at 65,535; when not running a state has 0, and others are refused by
+    3. A report of 36 bands has 18 words."""
+    report = REPORTED + 18
+    # N = C = 1: each tick reports; a refused command between the first and the second
+    yield from (*numbered("tick", IDLE, 0), *numbered("command", 0x0020, 0))
+    yield from (*numbered("tick", report, 1), *numbered("command", REFUSED + 1, 1), *numbered("tick", report, 2))
+    # the 65,534th, 65,535th and 65,536th report; a refused command; one that stores the same value; the first report after it
+    yield from (*numbered("tick", report, 65534), *numbered("tick", report, 65535), *numbered("tick", report, 65535))
+    yield from (*numbered("command", REFUSED + 1, 65535), *numbered("command", 0x0020, 0), *numbered("tick", report, 1))
+    # N = 2, C = 4: collected, reported, two waiting, collected, reported
+    yield from numbered("command", 0x2120, 0)
+    for answer, number in ((COLLECTED, 0), (report, 1), (WAITING, 1), (WAITING, 1), (COLLECTED, 1), (report, 2)):
+        yield from numbered("tick", answer, number)
+    # no processor enabled: idle; then with the number 1, which is refused by 3 and handed back; a read looks at registers only
+    yield from (*numbered("command", 0x2100, 0), *numbered("tick", IDLE, 0))
+    yield from (*numbered("tick", REFUSED + 3, 1), *numbered("command", REFUSED + 3, 1), f"read {0x2100}")
 
 
 def is_legal(code):

@@ -1,5 +1,5 @@
-// The board: commands and ticks (01, "Periods"). The state goes in and comes back; the totals, the powers and the output are the caller's.
-// Crate `model` has the types, the rules, and a read, which is the state's own.
+// The board: commands and ticks (01, "Periods", and 02, ticket 13). The state goes in and comes back; the totals, the powers and the output
+// are the caller's. Crate `model` has the types, the rules, and a read, which is the state's own.
 ghost use mathlib.Core.Path.{_≡_};
 ghost use mathlib.Core.Bool.{true, cond};
 ghost use Prim.Native.Nat.{_+_, _-_, _<_, _≤_};
@@ -9,7 +9,7 @@ ghost use Rattle.registers.specs.Store.{stored};
 ghost use Rattle.registers.specs.Access.{isId, registersSound, storedTo};
 ghost use Rattle.settings.specs.Settings.{averagedSpectra, runningOf};
 ghost use Rattle.model.specs.Totals.{noTotals};
-ghost use Rattle.model.specs.Board.{periodSound, spectraHeld, totalsWithin, stateSound, atNextPhase, lengthsFit};
+ghost use Rattle.model.specs.Board.{periodSound, spectraHeld, totalsWithin, stateSound, atNextPhase, reportCounted, lengthsFit};
 ghost use Rattle.model.specs.Board.{commandedOutcome, commandOutcome, tickReply, tickedOutcome, tickOutcome};
 ghost use Rattle.report.specs.Writing.{wordCountOutcome};
 ghost use Rattle.board.specs.Private.{Ticking, reportReply, reportState, reportingTick, runningTick};
@@ -26,7 +26,7 @@ use report::WordCount;
 use report::write_report;
 use totals::add_spectrum;
 
-// The phase is below C when running, and otherwise 0.
+// The phase is below C when running; otherwise it and the number of reports are 0.
 fn is_period_sound(state: State, running: bool) -> bool
     requires { ⌜ running ≡ runningOf (state .registers) ⌝ }
     ensures { λ r. ⌜ r ≡ periodSound state ⌝ }
@@ -34,7 +34,7 @@ fn is_period_sound(state: State, running: bool) -> bool
     if running {
         state.phase < settings::period_ticks(state.registers)
     } else {
-        state.phase == 0
+        (state.phase == 0) & (state.reports == 0)
     }
 }
 
@@ -104,10 +104,10 @@ fn refused_command(state: State, refusal: Refusal) -> Commanded
     }
 }
 
-// The value stored, and the state with it at phase 0.
+// The value stored, and the state with it at phase 0 and without reports.
 fn accepted_command(state: State, id: u8, information: u16) -> Commanded
     requires { ⌜ (registersSound (state .registers) ≡ true) × (isId id ≡ true) ⌝ }
-    ensures { λ r. ⌜ r ≡ record { answer = Answer.Value (stored id information); state = record { registers = storedTo (state .registers) id information; phase = 0 } } ⌝ }
+    ensures { λ r. ⌜ r ≡ record { answer = Answer.Value (stored id information); state = record { registers = storedTo (state .registers) id information; phase = 0; reports = 0 } } ⌝ }
 {
     let present = state.registers;
     let write = present.write(id, information);
@@ -118,6 +118,7 @@ fn accepted_command(state: State, id: u8, information: u16) -> Commanded
         state: State {
             registers,
             phase: 0,
+            reports: 0,
         },
     }
 }
@@ -149,6 +150,18 @@ fn next_phase(phase: u16, period: u16) -> u16
     if phase == period - 1 { 0 } else { phase + 1 }
 }
 
+// The state with one report more counted; the number stays at 65,535 once there.
+fn report_counted(state: State) -> State
+    ensures { λ r. ⌜ r ≡ reportCounted state ⌝ }
+{
+    let before = state.reports;
+    State {
+        registers: state.registers,
+        phase: state.phase,
+        reports: if before < 65535 { before + 1 } else { 65535 },
+    }
+}
+
 // The report and the state after it.
 fn reported_tick(words: WordCount, state: State, next: State) -> Ticked
     ensures { λ r. ⌜ (tickReply (r .answer) ≡ reportReply (wordCountOutcome words)) × (r .state ≡ reportState (wordCountOutcome words) state next) ⌝ }
@@ -173,7 +186,7 @@ fn reporting_tick(
 ) -> Ticked
     requires { ⌜ Ticking state (now totals) (now powers) (now out) ⌝ }
     requires { ⌜ state .phase ≡ averagedSpectra (state .registers) - 1 ⌝ }
-    requires { ⌜ next ≡ atNextPhase state ⌝ }
+    requires { ⌜ next ≡ reportCounted (atNextPhase state) ⌝ }
     ensures { λ r. ⌜ tickedOutcome r (now (totals .exit)) (now (out .exit)) ≡ reportingTick state (now (totals .entry)) (now (powers .entry)) (now (out .entry)) ⌝ }
 {
     let registers = state.registers;
@@ -196,6 +209,7 @@ fn running_tick(state: State, totals: &mut [u64], powers: &[u32], out: &mut [u8]
     let next = State {
         registers,
         phase: next_phase(phase, period),
+        reports: state.reports,
     };
     if phase < last {
         add_spectrum(registers, totals, powers);
@@ -205,7 +219,7 @@ fn running_tick(state: State, totals: &mut [u64], powers: &[u32], out: &mut [u8]
         };
     }
     if phase == last {
-        return reporting_tick(state, next, totals, powers, out);
+        return reporting_tick(state, report_counted(next), totals, powers, out);
     }
     Ticked {
         answer: TickAnswer::Waiting,

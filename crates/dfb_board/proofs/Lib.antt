@@ -1,4 +1,5 @@
 pub mod State
 pub mod Calls
+pub mod Fits
 pub mod Theorems
 pub mod Apart

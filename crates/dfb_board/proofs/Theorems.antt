@@ -67,13 +67,13 @@ module _ (s : State) (totals out : List ℕ) (n : ℕ) where
       (λ _. running-same (added (s .registers) totals powers))))
 
 pub refused-command-unchanged : RefusedCommandUnchanged
-refused-command-unchanged state totals n eight id v e =
-    sym (command-state state eight totals id v)
+refused-command-unchanged state totals n nine id v e =
+    sym (command-state state nine totals id v)
     ∙ ap commandLeft (command-same (stateOf state) totals n id v .same e)
-    ∙ ap (λ (l : List ℕ). record { answer = above16 + n; state = l; totals = totals }) (state-words state eight)
+    ∙ ap (λ (l : List ℕ). record { answer = above16 + n; state = l; totals = totals }) (state-words state nine)
 
 pub refused-tick-unchanged : RefusedTickUnchanged
-refused-tick-unchanged state totals n eight powers out e =
-    sym (tick-state state eight totals powers out)
+refused-tick-unchanged state totals n nine powers out e =
+    sym (tick-state state nine totals powers out)
     ∙ ap tickLeft (tick-same (stateOf state) totals out n powers .same e)
-    ∙ ap (λ (l : List ℕ). record { answer = above16 + n; state = l; totals = totals; out = out }) (state-words state eight)
+    ∙ ap (λ (l : List ℕ). record { answer = above16 + n; state = l; totals = totals; out = out }) (state-words state nine)

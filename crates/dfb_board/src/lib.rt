@@ -6,6 +6,7 @@ ghost use Rattle.registers.specs.Access.{answerOutcome};
 ghost use Rattle.model.specs.Board.{tickReply};
 ghost use Rattle.dfb_refusals.specs.Numbers.{above16, outcomeNumber};
 ghost use Rattle.dfb_board.specs.State.{stateOf, stateWords};
+ghost use Rattle.dfb_board.specs.Private.{Fits};
 ghost use Rattle.dfb_board.specs.Calls.{replyNumber, CommandCall, commandCall, readCall, tickCallLeft, tickCall};
 use model::State;
 use model::TickAnswer;
@@ -13,8 +14,8 @@ use refusal::Refusal;
 use registers::Answer;
 use registers::Registers;
 
-// The length of a state: seven registers and the phase.
-const STATE: usize = 8;
+// The length of a state: seven registers, the phase and the number of reports.
+const STATE: usize = 9;
 
 // The answer of a command or a read.
 fn answer_16(answer: Answer) -> u32
@@ -26,22 +27,23 @@ fn answer_16(answer: Answer) -> u32
     }
 }
 
-// The answer of a tick.
-fn tick_number(answer: TickAnswer) -> u32
-    ensures { λ r. ⌜ r ≡ replyNumber (tickReply answer) ⌝ }
+// The answer of a tick, with the number of reports of the state after it.
+fn tick_number(answer: TickAnswer, reports: u16) -> u32
+    requires { ⌜ Fits (tickReply answer) reports ⌝ }
+    ensures { λ r. ⌜ r ≡ replyNumber (tickReply answer) reports ⌝ }
 {
     match answer {
         TickAnswer::Idle => 0,
         TickAnswer::Collected => 1,
         TickAnswer::Waiting => 2,
-        TickAnswer::Reported(words) => 0x20000 + words as u32,
+        TickAnswer::Reported(words) => 0x80000000 + words as u32 * 65536 + reports as u32,
         TickAnswer::Refused(refusal) => dfb_refusals::above_16(refusal),
     }
 }
 
-// The state of eight numbers.
+// The state of nine numbers.
 fn load(state: &[u16]) -> State
-    requires { ⌜ length (now state) ≡ 8 ⌝ }
+    requires { ⌜ length (now state) ≡ 9 ⌝ }
     ensures { λ r. ⌜ r ≡ stateOf (now (state .entry)) ⌝ }
 {
     let value = [
@@ -56,12 +58,13 @@ fn load(state: &[u16]) -> State
     State {
         registers: Registers { value },
         phase: state[7],
+        reports: state[8],
     }
 }
 
-// The eight numbers of a state.
+// The nine numbers of a state.
 fn store(state: &mut [u16], from: State)
-    requires { ⌜ length (now state) ≡ 8 ⌝ }
+    requires { ⌜ length (now state) ≡ 9 ⌝ }
     ensures { λ _. ⌜ now (state .exit) ≡ stateWords from ⌝ }
 {
     let registers = from.registers;
@@ -73,6 +76,7 @@ fn store(state: &mut [u16], from: State)
     state[5] = registers.value[5];
     state[6] = registers.value[6];
     state[7] = from.phase;
+    state[8] = from.reports;
 }
 
 // A command; answers the value stored. Refused by 2, then 3, then 1.
@@ -123,5 +127,5 @@ pub extern "C" fn dfb_tick(
     let next = done.state;
     store(state, next);
     let answer = done.answer;
-    tick_number(answer)
+    tick_number(answer, next.reports)
 }

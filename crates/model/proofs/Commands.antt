@@ -29,7 +29,7 @@ command-back s totals id v long sound e =
     let value : stored id v ≡ v = given-same _ _ (ap (λ (o : WriteOutcome). o .answer) w) in
     let kept : storedTo (s .registers) id v ≡ s .registers = ap (λ (o : WriteOutcome). o .registers) w in
     rw (eq-eqb (length totals) 784 long, sound, t .1)
-    (ap₂ (λ (k : ℕ) (r : Registers). record { answer = stores k; state = record { registers = r; phase = 0 }; totals = noTotals }) value kept)
+    (ap₂ (λ (k : ℕ) (r : Registers). record { answer = stores k; state = record { registers = r; phase = 0; reports = 0 }; totals = noTotals }) value kept)
 
 -- a refusal is no value stored
 refused-stores : {A : Type 0} (n w : ℕ) → _≡_ {A = Reply ℕ} (refused n) (stores w) → A

@@ -1,3 +1,4 @@
+pub mod Numbers
 pub mod Phases
 pub mod SpectraTotals
 pub mod Sound
@@ -7,6 +8,7 @@ pub mod Invariant
 pub mod Keeps
 pub mod Simulation
 pub mod Demand3
+pub mod ReportNumbers
 pub mod Commands
 pub mod Ticks
 pub mod Witness

@@ -1,7 +1,7 @@
--- The phase of a period, and how many spectra the totals hold at it. Assumes nothing.
+-- The phase of a period, how many spectra the totals hold at it, and that phase and number of reports stay sound. Assumes nothing.
 use Prim.Native.Nat.{ℕ, _+_, _-_, _≤_, _<_}
 use mathlib.Core.Path.{_≡_, refl, sym, subst}
-use mathlib.Core.Bool.{true, false, cond, _&&_}
+use mathlib.Core.Bool.{true, false, cond, _&&_, or-true}
 use mathlib.Core.List.{List, [], _∷_, _++_}
 use native.Mathlib.Omega.{arith}
 use lib.Dec.{ltb, eqb, lit≤}
@@ -12,7 +12,7 @@ use Rattle.registers.specs.declared.Registers.{Registers}
 use Rattle.settings.proofs.Settings.{averaged-pos, averaged-le, period-pos, running-le}
 use Rattle.model.specs.Reply.{collected, waiting}
 use Rattle.model.specs.declared.State.{State}
-use Rattle.model.specs.Board.{phaseSound, periodSound, atNextPhase, spectraHeld}
+use Rattle.model.specs.Board.{phaseSound, reportsSound, periodSound, atNextPhase, reportCounted, spectraHeld}
 use Rattle.model.specs.Reference.{Reference, Entry, afterTick, entryReport, entryRunning}
 
 -- the book's three cases of a tick when running are the board's
@@ -66,10 +66,19 @@ module _ (r : Registers) where
         (λ z. lt-ltb 0 (periodTicks r) (omega arith))
         (λ n. let d : ¬ (p ≡ periodTicks r - 1) = eqb-false p (periodTicks r - 1) n in lt-ltb (p + 1) (periodTicks r) (omega arith)))
 
-  -- a state at phase 0 is sound beside its registers, and so is a running one at its next phase
-  pub fresh-sound : periodSound (record { registers = r; phase = 0 }) ≡ true
+  -- no reports are sound, and any number of them when running
+  reports-zero : reportsSound r 0 ≡ true
+  unfolding reportsSound
+  reports-zero = or-true (runningOf r)
+
+  reports-any : runningOf r ≡ true → (n : ℕ) → reportsSound r n ≡ true
+  unfolding reportsSound
+  reports-any run n = rw run
+
+  -- a state at phase 0 without reports is sound beside its registers, and so is a running one at its next phase and with a report more
+  pub fresh-sound : periodSound (record { registers = r; phase = 0; reports = 0 }) ≡ true
   unfolding periodSound
-  fresh-sound = phase-zero
+  fresh-sound = rw (phase-zero, reports-zero)
 
   -- the spectra held at p of a running board
   module _ (run : runningOf r ≡ true) (p : ℕ) where
@@ -105,10 +114,18 @@ module _ (r : Registers) where
       cond-at (λ q. spectraHeld r q ≡ 0) (eqb p (periodTicks r - 1)) (λ e. held-zero)
       (λ e. held-none run (p + 1) (omega (arith, ltb-false p (averagedSpectra r - 1) c)))
 
-pub period-lt : (s : State) → runningOf (s .registers) ≡ true → periodSound s ≡ true → s .phase < periodTicks (s .registers)
+-- the phase of a sound state is sound
+phase-part : (s : State) → periodSound s ≡ true → phaseSound (s .registers) (s .phase) ≡ true
 unfolding periodSound
-period-lt s run h = phase-lt (s .registers) (s .phase) run h
+phase-part s h = both _ (reportsSound (s .registers) (s .reports)) h .0
+
+pub period-lt : (s : State) → runningOf (s .registers) ≡ true → periodSound s ≡ true → s .phase < periodTicks (s .registers)
+period-lt s run h = phase-lt (s .registers) (s .phase) run (phase-part s h)
 
 pub next-sound : (s : State) → runningOf (s .registers) ≡ true → periodSound s ≡ true → periodSound (atNextPhase s) ≡ true
 unfolding periodSound
-next-sound s run h = phase-next (s .registers) (s .phase) run h
+next-sound s run h = rw (phase-next (s .registers) (s .phase) run (phase-part s h), reports-any (s .registers) run (atNextPhase s .reports))
+
+pub report-sound : (s : State) → runningOf (s .registers) ≡ true → periodSound s ≡ true → periodSound (reportCounted s) ≡ true
+unfolding periodSound
+report-sound s run h = rw (phase-part s h, reports-any (s .registers) run (reportCounted s .reports))

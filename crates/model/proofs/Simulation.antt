@@ -15,10 +15,11 @@ use Rattle.registers.specs.declared.Registers.{Registers}
 use Rattle.model.specs.Reply.{reported}
 use Rattle.model.specs.Totals.{slot, added}
 use Rattle.model.specs.Report.{reportBytes}
-use Rattle.model.specs.Board.{CommandOutcome, TickOutcome, atNextPhase, lengthsFit, tickReported, runningOutcome, commandOutcome, tickOutcome}
+use Rattle.model.specs.Board.{CommandOutcome, TickOutcome, atNextPhase, reportCounted, lengthsFit, tickReported, runningOutcome, commandOutcome, tickOutcome}
 use Rattle.model.specs.Reference.{Reference, Entry, afterTick, entryReport, entryRunning, entry, spectraTotal}
 use Rattle.model.specs.Calls.{TotalsPassed, current, wrong, Memory, Call, command, tick, Performed, performCommand, performTick, perform, inputOf, outOf, answerOf, writtenBy}
-use Rattle.model.proofs.Phases.{byBoardCases, entry-cases, nextPhase, held-waiting, fresh-sound, next-sound}
+use Rattle.model.specs.declared.State.{State}
+use Rattle.model.proofs.Phases.{byBoardCases, entry-cases, nextPhase, held-waiting, fresh-sound, next-sound, report-sound}
 use Rattle.model.proofs.Invariant.{heldTotals, Represents, Good, memory-sound, memory-length, held-no, held-added}
 use Rattle.model.proofs.Reports.{slot-held, report-ext}
 
@@ -74,6 +75,12 @@ module _ (m : Reference) (g : Good m) (x : Memory) (h : Represents m x) where
         totals = e;
       }
 
+  -- the same with a report more
+  report-counted : {n : Reference} {s : State} {totals : List ℕ} → runningOf (s .registers) ≡ true →
+      Represents n (record { state = s; totals = totals }) → Represents n (record { state = reportCounted s; totals = totals })
+  report-counted {n} {s} run e =
+      record { registers = e .registers; phase = e .phase; sound = report-sound s run (e .sound); totals = e .totals }
+
   module _ (run : runningOf r ≡ true) (ps out : List ℕ) where
     abbrev sp : List (List ℕ)
     sp = m .spectra ++ (ps ∷ [])
@@ -93,7 +100,7 @@ module _ (m : Reference) (g : Good m) (x : Memory) (h : Represents m x) where
         record {
           answer = ap (λ q. reported (specWords q)) (h .registers);
           out = ap (λ l. overwrite l out) bytes;
-          next = ticked run [] _ (held-no r);
+          next = report-counted (ap runningOf (h .registers) ∙ run) (ticked run [] _ (held-no r));
         }
 
     by-cases : FollowsTick out (runningOutcome (x .state) (x .totals) tickSums out) (byBoardCases m sp)

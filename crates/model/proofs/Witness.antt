@@ -1,8 +1,9 @@
 -- Reports do come: from reset, after 0x1120 to 0x30 (processor 1 enabled, 36 bands, N = C = 2), a tick with powers 8 is collected, and the
--- next one, with powers 11, reports (01, "Numbers on both sides"). Assumes nothing.
-use Prim.Native.Nat.{ℕ, zero, suc, _^_, _≤_, _<_}
+-- next one, with powers 11, reports (01, "Numbers on both sides"). And after 0x0020 (N = C = 1) each tick reports, so that every count of
+-- reports comes. Assumes nothing.
+use Prim.Native.Nat.{ℕ, zero, suc, _+_, _^_, _≤_, _<_}
 use mathlib.Core.Path.{_≡_, refl, sym, ap, subst, _∙_}
-use mathlib.Core.List.{List, [], _∷_}
+use mathlib.Core.List.{List, [], _∷_, map}
 use native.Mathlib.Omega.{arith}
 use lib.ListN.{length, getD, replicate, length-replicate, getD-replicate}
 use lib.Dec.{lit<}
@@ -19,7 +20,8 @@ use Rattle.model.specs.Totals.{power, bandPower}
 use Rattle.model.specs.Report.{divisor, mean}
 use Rattle.model.specs.Reference.{Reference, Entry, entry, spectraTotal}
 use Rattle.model.specs.Calls.{Powers, Call, command, tick, current, inputOf, outOf, writtenBy}
-use Rattle.model.specs.Demand.{ReportedBand, printedValue, resetMemory, Run, modelOf, performed, Reports}
+use Rattle.model.specs.Demand.{ReportedBand, printedValue, resetMemory, AllTyped, Run, modelOf, performed, Reports}
+use Rattle.model.specs.ReportNumbers.{entries, countEntries, EveryCount}
 use Rattle.model.specs.Claims.{SomeListReports, SomeListAverages}
 use Rattle.model.proofs.Invariant.{reset-begun}
 use Rattle.model.proofs.Reports.{printed-mean}
@@ -176,3 +178,30 @@ some-list-averages =
 
 pub some-list-reports : SomeListReports
 some-list-reports = (whole, spectra, whole-reports)
+
+-- ---- every count of reports: one of each tick after the command
+
+each-tick : Registers
+each-tick = storedTo atReset 0x30 0x0020
+
+abbrev begun : Reference
+begun = record { registers = each-tick; phase = 0; spectra = [] }
+
+abbrev reporting : Call
+reporting = spectrum 8
+
+tick-reports : entry begun (inputOf reporting) ≡ record { reply = reported (powers 8 ∷ []); next = begun }
+unfolding entry each-tick averagedSpectra periodTicks runningOf enabledOf sumTo highStored lowStored storedAt
+tick-reports = rw (powers-length 8, output-length)
+
+ticks-typed : (k : ℕ) → AllTyped (replicate k reporting)
+ticks-typed zero = tt
+ticks-typed (suc k) = (typed-8, ticks-typed k)
+
+ticks-count : (k n : ℕ) → countEntries n (entries begun (map inputOf (replicate k reporting))) ≡ n + k
+ticks-count zero n = omega arith
+ticks-count (suc k) n = rw tick-reports (ticks-count k (n + 1) ∙ omega arith)
+
+pub every-count : EveryCount
+unfolding entry each-tick
+every-count k = (command 0x30 0x0020 current ∷ replicate k reporting, (tt, ticks-typed k), ticks-count k 0 ∙ omega arith)

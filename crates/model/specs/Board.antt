@@ -1,7 +1,7 @@
--- 01, "Periods" and "Refusal numbers": what a command and a tick do to the state, the totals passed and the output passed. The functions
--- `command` and `tick` of crate `board` ensure these definitions, and demand 3 is proved of them.
-use Prim.Native.Nat.{ℕ, _+_, _-_, _*_, _^_}
-use mathlib.Core.Bool.{Bool, cond, _&&_, not}
+-- 01, "Periods" and "Refusal numbers", and 02, ticket 13: what a command and a tick do to the state, the totals passed and the output
+-- passed. The functions `command` and `tick` of crate `board` ensure these definitions, and demand 3 is proved of them.
+use Prim.Native.Nat.{ℕ, _+_, _-_, _*_, _^_, min}
+use mathlib.Core.Bool.{Bool, cond, _&&_, _||_, not}
 use mathlib.Core.List.{List}
 use lib.ListN.{length}
 use lib.Dec.{leb, ltb, eqb}
@@ -23,7 +23,7 @@ use Rattle.model.specs.declared.Commanded.{Commanded}
 use Rattle.model.specs.declared.Ticked.{Ticked}
 
 abbrev pub resetState : State
-resetState = record { registers = atReset; phase = 0 }
+resetState = record { registers = atReset; phase = 0; reports = 0 }
 
 -- ---- a sound state
 
@@ -43,9 +43,13 @@ totalsWithin r m totals = allTo 7 (λ n. allTo 112 (λ b. leb (slot totals n b) 
 unfoldable pub phaseSound : Registers → ℕ → Bool
 phaseSound r p = cond (runningOf r) (ltb p (periodTicks r)) (eqb p 0)
 
+-- the number of reports is any when running, and otherwise 0
+unfoldable pub reportsSound : Registers → ℕ → Bool
+reportsSound r n = runningOf r || eqb n 0
+
 -- what soundness asks of the state's fields beside its registers
 unfoldable pub periodSound : State → Bool
-periodSound s = phaseSound (s .registers) (s .phase)
+periodSound s = phaseSound (s .registers) (s .phase) && reportsSound (s .registers) (s .reports)
 
 unfoldable pub stateSound : State → List ℕ → Bool
 stateSound s totals =
@@ -71,10 +75,10 @@ commandedOutcome r totals = record { answer = commandReply (answerOutcome (r .an
 abbrev pub commandRefused : ℕ → State → List ℕ → CommandOutcome
 commandRefused n s totals = record { answer = refused n; state = s; totals = totals }
 
--- accepted: one register changes, phase and totals become 0
+-- accepted: one register changes; phase, number of reports and totals become 0
 abbrev pub commandAccepted : State → ℕ → ℕ → CommandOutcome
 commandAccepted s id v =
-    record { answer = stores (stored id v); state = record { registers = storedTo (s .registers) id v; phase = 0 }; totals = noTotals }
+    record { answer = stores (stored id v); state = record { registers = storedTo (s .registers) id v; phase = 0; reports = 0 }; totals = noTotals }
 
 -- a command of ID id with information v: refused by 2, 3, then 1
 unfoldable pub commandOutcome : State → List ℕ → ℕ → ℕ → CommandOutcome
@@ -105,18 +109,27 @@ tickedOutcome r totals out = record { answer = tickReply (r .answer); state = r 
 
 -- the state with phase p + 1, or 0 after C - 1
 abbrev pub atNextPhase : State → State
-atNextPhase s = record { registers = s .registers; phase = cond (eqb (s .phase) (periodTicks (s .registers) - 1)) 0 (s .phase + 1) }
+atNextPhase s =
+    record {
+      registers = s .registers;
+      phase = cond (eqb (s .phase) (periodTicks (s .registers) - 1)) 0 (s .phase + 1);
+      reports = s .reports;
+    }
+
+-- the state with one report more counted; the number stays at 65,535 once there
+abbrev pub reportCounted : State → State
+reportCounted s = record { registers = s .registers; phase = s .phase; reports = min (s .reports + 1) 65535 }
 
 -- a tick that writes no output
 abbrev pub withoutReport : Reply ℕ → State → List ℕ → List ℕ → TickOutcome
 withoutReport a s totals out = record { answer = a; state = s; totals = totals; out = out }
 
--- the report; sums are the totals with the tick's powers added
+-- the report, whose number is that of the state after it; sums are the totals with the tick's powers added
 abbrev pub tickReported : State → List ℕ → List ℕ → TickOutcome
 tickReported s sums out =
     record {
       answer = reported (specWords (s .registers));
-      state = atNextPhase s;
+      state = reportCounted (atNextPhase s);
       totals = noTotals;
       out = overwrite (reportBytes (s .registers) (slot sums)) out;
     }

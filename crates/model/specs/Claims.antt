@@ -1,5 +1,5 @@
 -- What is proved of single calls, and that demand 3 speaks of something: proofs/Ticks.antt, Commands.antt, Legal.antt, Invariant.antt and
--- Witness.antt have it. Demand 3 itself is in Demand.antt.
+-- Witness.antt have it. Demand 3 itself is in Demand.antt, and the numbers of reports are in ReportNumbers.antt.
 use Prim.Native.Nat.{ℕ, _-_, _*_, _≤_, _<_, _^_}
 use mathlib.Core.Path.{_≡_}
 use mathlib.Core.Bool.{true}
@@ -34,11 +34,11 @@ ReadCommanded =
     (s : State) (totals : List ℕ) (id v w : ℕ) → length (s .registers .value) ≡ 7 → commandOutcome s totals id v .answer ≡ stores w →
     registerRead (commandOutcome s totals id v .state .registers) id ≡ given w
 
--- a command with the value read stores it again: the registers stay, and phase and totals become 0
+-- a command with the value read stores it again: the registers stay, and phase, number of reports and totals become 0
 abbrev pub CommandBack : Type 0
 CommandBack =
     (s : State) (totals : List ℕ) (id v : ℕ) → length totals ≡ 784 → stateSound s totals ≡ true → registerRead (s .registers) id ≡ given v →
-    commandOutcome s totals id v ≡ record { answer = stores v; state = record { registers = s .registers; phase = 0 }; totals = noTotals }
+    commandOutcome s totals id v ≡ record { answer = stores v; state = record { registers = s .registers; phase = 0; reports = 0 }; totals = noTotals }
 
 -- ---- ticks
 

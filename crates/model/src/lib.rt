@@ -1,4 +1,5 @@
-// The rules of the board as definitions, its reference model, and demand 3 (01, "Periods" and "Demand 3 and its plain book").
+// The rules of the board as definitions, its reference model, demand 3 (01, "Periods" and "Demand 3 and its plain book"), and the numbers of
+// reports (02, ticket 13).
 // The only code is the state's reset and read: crate `board` has the functions that meet the other rules.
 ghost use mathlib.Core.Path.{_≡_};
 ghost use Rattle.registers.specs.Access.{answerOutcome, registerRead};
@@ -7,10 +8,11 @@ use refusal::Refusal;
 use registers::Answer;
 use registers::Registers;
 
-// The registers, and the phase in ticks since the period began.
+// The registers, the phase in ticks since the period began, and the reports since the last accepted command, counted up to 65,535.
 pub struct State {
     pub registers: Registers,
     pub phase: u16,
+    pub reports: u16,
 }
 
 // The answer of a command, which is the value stored, and the state after it.
@@ -19,7 +21,7 @@ pub struct Commanded {
     pub state: State,
 }
 
-// The answer of a tick in 01's words; a report has its number of words.
+// The answer of a tick in 01's words; a report has its word count. The report's number is `reports` of the state after it.
 pub enum TickAnswer {
     Idle,
     Collected,
@@ -57,6 +59,7 @@ impl State {
         State {
             registers: Registers::reset(),
             phase: 0,
+            reports: 0,
         }
     }
 

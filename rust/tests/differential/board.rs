@@ -1,5 +1,5 @@
 //! Lists of commands, reads and ticks.
-use crate::model::{self, Answer, Board, Settings, BINS, POWERS, PROCESSORS, SLOTS, TOTALS};
+use crate::model::{self, Answer, Board, Settings, BINS, POWERS, PROCESSORS, SLOTS, STATE, TOTALS};
 use crate::numbered;
 use crate::random::{seeds, Buffer, Random};
 
@@ -18,7 +18,7 @@ impl Pair {
     pub fn command(&mut self, id: u8, information: u16) -> Answer<u16> {
         let (mut state, mut totals) = (self.state.clone(), self.totals.clone());
         let answer = numbered(dfb::command(state.list(), totals.list(), id, information));
-        assert_eq!(answer, self.board.command(8, TOTALS, id, information));
+        assert_eq!(answer, self.board.command(STATE, TOTALS, id, information));
         self.keep(state, totals);
         answer
     }
@@ -35,7 +35,7 @@ impl Pair {
         let settings = self.board.settings();
         let answer = numbered(dfb::tick(state.list(), totals.list(), lent.list(), out.list()));
         assert!(lent == Buffer::lent(powers));
-        let expected = self.board.tick(8, TOTALS, powers, out.list().len());
+        let expected = self.board.tick(STATE, TOTALS, powers, out.list().len());
         compare_tick(answer, expected, &settings, &before, out);
         self.keep(state, totals);
         answer
@@ -50,7 +50,7 @@ impl Pair {
 
     /// A call with a list of a wrong length, which changes nothing.
     fn wrong_length(&mut self, r: &mut Random, powers: &[u32]) {
-        let mut lengths = [8, TOTALS, POWERS, 1176 + r.below(100)];
+        let mut lengths = [STATE, TOTALS, POWERS, 1176 + r.below(100)];
         for _ in 0..1 + r.below(2) {
             let list = r.below(4);
             lengths[list] = wrong_length(r, list);
@@ -65,11 +65,11 @@ impl Pair {
         assert_eq!(self.board.tick(lengths[0], lengths[1], powers.list(), lengths[3]), Err(2));
 
         let (id, information) = (r.pick(&[0x30, 0x31, 0x36, 0x2F, 0x37]), r.next() as u16);
-        if lengths[0] != 8 || lengths[1] != TOTALS {
+        if lengths[0] != STATE || lengths[1] != TOTALS {
             assert_eq!(numbered(dfb::command(state.list(), totals.list(), id, information)), Err(2));
             assert_eq!(self.board.command(lengths[0], lengths[1], id, information), Err(2));
         }
-        if lengths[0] != 8 {
+        if lengths[0] != STATE {
             assert_eq!(numbered(dfb::read(state.list(), id)), Err(2));
             assert_eq!(model::read(state.list(), id), Err(2));
         }
@@ -80,7 +80,7 @@ impl Pair {
 
 fn wrong_length(r: &mut Random, list: usize) -> usize {
     match list {
-        0 => r.pick(&[0, 1, 7, 9, 64]),
+        0 => r.pick(&[0, 1, 7, 8, 10, 64]),
         1 => r.pick(&[0, 1, 112, 783, 785]),
         2 => r.pick(&[0, 1, 1024, 7167, 7169]),
         _ => r.pick(&[0, 1, 54, 1175]),
@@ -98,7 +98,7 @@ fn resized<T: Copy>(list: &[T], length: usize, mut random: impl FnMut() -> T) ->
 fn compare_tick(answer: Answer<dfb::Tick>, expected: Answer<model::Tick>, settings: &Settings, before: &Buffer<u8>, out: &mut Buffer<u8>) {
     let simple = match expected {
         Ok(model::Tick::Reported(report)) => {
-            assert_eq!(answer, Ok(dfb::Tick::Reported(report.bytes.len() / 3)));
+            assert_eq!(answer, Ok(dfb::Tick::Reported(dfb::Report { words: report.bytes.len() / 3, number: report.number })));
             assert_eq!(*out, before.with(0, &report.bytes));
             check_bounds(settings, &report.totals, out.list());
             return;
@@ -232,22 +232,31 @@ fn lists_from_any_sound_registers() {
     let mut reports = 0;
     for seed in seeds(150) {
         let mut r = Random::new(1 << 32 | seed);
-        let mut state = random_registers(&mut r).to_vec();
-        state.push(0);
+        let state = random_state(&mut r, 0);
         let calls = r.pick(&[1, 10, 40, 120]);
         reports += run_list(&mut r, Board::begin(&state, &[0; TOTALS]).unwrap(), calls);
     }
     assert!(reports > 500, "only {reports} reports");
 }
 
-/// A state of running registers within their period, with totals up to the largest that are sound.
-pub fn random_memory(r: &mut Random) -> (Vec<u16>, Vec<u64>) {
+/// A sound state of random registers at a phase, if they are running: then with any number of reports, often one of the last.
+fn random_state(r: &mut Random, phase: u16) -> Vec<u16> {
     let registers = random_registers(r);
+    let any = r.next() as u16;
+    let number = r.pick(&[0, 0, 1, 2, 65532, 65533, 65534, 65535, any]);
     let settings = Settings::of(&registers);
+    let rest = if settings.is_running() { [phase % settings.period as u16, number] } else { [0, 0] };
+    [&registers[..], &rest].concat()
+}
+
+/// A sound state, running ones within their period, with totals up to the largest that are sound.
+pub fn random_memory(r: &mut Random) -> (Vec<u16>, Vec<u64>) {
+    let phase = r.next() as u16;
+    let state = random_state(r, phase);
+    let settings = Settings::of(&state);
     let mut totals = vec![0; TOTALS];
-    let mut phase = 0;
     if settings.is_running() {
-        phase = r.below(settings.period as usize);
+        let phase = state[7];
         let style = r.below(3);
         for (slot, total) in totals.iter_mut().enumerate() {
             let largest = model::largest_total(&settings, phase as u64, slot / SLOTS, slot % SLOTS) as u64;
@@ -258,8 +267,6 @@ pub fn random_memory(r: &mut Random) -> (Vec<u16>, Vec<u64>) {
             };
         }
     }
-    let mut state = registers.to_vec();
-    state.push(phase as u16);
     (state, totals)
 }
 
@@ -267,13 +274,14 @@ pub fn random_memory(r: &mut Random) -> (Vec<u16>, Vec<u64>) {
 pub fn damage(r: &mut Random, state: &mut [u16], totals: &mut [u64]) {
     let settings = Settings::of(state);
     let slot = r.below(TOTALS);
-    match r.below(7) {
+    match r.below(8) {
         0 => state[r.below(7)] ^= 1 << r.below(16),
         1 => state[7] = r.pick(&[0, 1, settings.averaged as u16, settings.period as u16, settings.period as u16 + 1, u16::MAX]),
         2 => totals[slot] = totals[slot].wrapping_add(1),
         3 => totals[slot] = r.any_size(),
         4 => totals[r.pick(&[0, 35, 36, 63, 64, 111, 112, 671, 672, 783])] += 1,
         5 => state[r.below(7)] = r.next() as u16,
+        6 => state[8] = r.pick(&[0, 1, 65534, 65535]),
         _ => state[r.below(7)] ^= 0x20,
     }
 }
@@ -328,7 +336,7 @@ fn refuse_unsound(r: &mut Random, state: &[u16], totals: &[u64]) {
 fn limits_of_every_slot() {
     for setting in 0..3 {
         for (navg, ncad, phase) in [(0, 1, 0), (0, 1, 1), (2, 3, 1), (2, 3, 3), (2, 3, 4), (2, 3, 7), (10, 10, 1023)] {
-            let state = [ncad << 12 | navg << 8 | setting << 6 | 0x20, 0, 0x36, 0, 0, 0, 0x20, phase];
+            let state = [ncad << 12 | navg << 8 | setting << 6 | 0x20, 0, 0x36, 0, 0, 0, 0x20, phase, 65535 - phase];
             let settings = Settings::of(&state);
             let largest = |slot: usize| model::largest_total(&settings, phase as u64, slot / SLOTS, slot % SLOTS) as u64;
             let totals: Vec<u64> = (0..TOTALS).map(largest).collect();
@@ -350,7 +358,7 @@ fn limits_of_every_slot() {
 /// Every value of every register: sound exactly where a write stores it.
 #[test]
 fn soundness_of_every_register() {
-    let mut state = Buffer::lent(&[0; 8]);
+    let mut state = Buffer::lent(&[0; STATE]);
     for n in 0..PROCESSORS {
         for value in 0..=0xFFFF {
             state.list()[n] = value;
@@ -362,13 +370,16 @@ fn soundness_of_every_register() {
     }
 }
 
-/// Every information to every register.
+/// Every information to every register, each with a number of reports where the board is running.
 #[test]
 fn every_command() {
-    let (mut state, mut totals) = (Buffer::lent(&[0; 8]), Buffer::lent(&[0; TOTALS]));
+    let (mut state, mut totals) = (Buffer::lent(&[0; STATE]), Buffer::lent(&[0; TOTALS]));
     let (mut expected, zeros) = (state.clone(), totals.clone());
     for id in 0x30..=0x36 {
         for information in (0..=0xFFFF).chain([0]) {
+            if Settings::of(state.list()).is_running() {
+                state.list()[8] = information | 1;
+            }
             let value = model::stored(id, information);
             expected.list()[id as usize - 0x30] = value.unwrap();
             assert_eq!(numbered(dfb::command(state.list(), totals.list(), id, information)), value);
@@ -401,7 +412,7 @@ fn longest_periods() {
             let mut out = random_out(&mut r);
             let (before, settings) = (out.clone(), book.settings());
             let answer = pair.tick(&powers, &mut out);
-            compare_tick(answer, book.tick(8, TOTALS, &powers, 1176), &settings, &before, &mut out);
+            compare_tick(answer, book.tick(STATE, TOTALS, &powers, 1176), &settings, &before, &mut out);
             pair.board = Board::begin(&pair.board.state(), &pair.board.totals()).unwrap();
         }
         assert_eq!((book.phase, book.state(), book.totals()), (0, pair.board.state(), pair.board.totals()));
@@ -413,9 +424,7 @@ fn longest_periods() {
 fn rows_of_disabled_processors() {
     for seed in seeds(100) {
         let mut r = Random::new(4 << 32 | seed);
-        let mut state = random_registers(&mut r).to_vec();
-        state.push(0);
-        let board = Board::begin(&state, &[0; TOTALS]).unwrap();
+        let board = Board::begin(&random_state(&mut r, 0), &[0; TOTALS]).unwrap();
         let enabled = board.settings().enabled;
         let (mut pair, mut other) = (Pair::new(&mut r, board.clone()), Pair::new(&mut r, board));
         for _ in 0..20 {
@@ -435,7 +444,7 @@ fn rows_of_disabled_processors() {
 fn larger_powers() {
     for seed in seeds(150) {
         let mut r = Random::new(5 << 32 | seed);
-        let board = Board::begin(&[&random_registers(&mut r)[..], &[0]].concat(), &[0; TOTALS]).unwrap();
+        let board = Board::begin(&random_state(&mut r, 0), &[0; TOTALS]).unwrap();
         let settings = board.settings();
         if !settings.is_running() || settings.averaged > 32 {
             continue;
@@ -453,6 +462,31 @@ fn larger_powers() {
             }
         }
     }
+}
+
+/// 02, ticket 13: the last numbers, with commands that are refused in between.
+#[test]
+fn last_numbers() {
+    let mut stayed = 0;
+    for seed in seeds(150) {
+        let mut r = Random::new(7 << 32 | seed);
+        let mut state = random_state(&mut r, 0);
+        if !Settings::of(&state).is_running() {
+            continue;
+        }
+        state[8] = 65535 - r.below(4) as u16;
+        let mut pair = Pair::new(&mut r, Board::begin(&state, &[0; TOTALS]).unwrap());
+        for _ in 0..40 {
+            if r.percent(20) {
+                assert_eq!(pair.command(r.pick(&[0x2F, 0x37]), 0), Err(1));
+            }
+            let (powers, mut out) = (random_powers(&mut r), random_out(&mut r));
+            if let Ok(dfb::Tick::Reported(report)) = pair.tick(&powers, &mut out) {
+                stayed += (report.number == 65535) as usize;
+            }
+        }
+    }
+    assert!(stayed > 200, "only {stayed} reports have the last number");
 }
 
 /// The methods of a board from reset, beside the functions on memory of the caller, and so beside the model.

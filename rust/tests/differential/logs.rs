@@ -220,8 +220,8 @@ fn logs_of_a_running_board() {
             let (powers, mut out) = (random_powers(&mut r), random_out(&mut r));
             let answer = pair.tick(&powers, &mut out);
             assert!(log.append(4, 0, 0));
-            if let Ok(dfb::Tick::Reported(words)) = answer {
-                for word in out.list().chunks(3).take(words) {
+            if let Ok(dfb::Tick::Reported(report)) = answer {
+                for word in out.list().chunks(3).take(report.words) {
                     assert!(log.append(2, word[0], word[1] as u32 * 256 + word[2] as u32));
                 }
             }

@@ -3,7 +3,7 @@ use dfb::{Cadence, Refusal};
 
 #[test]
 fn registers() {
-    let write = |id, information| dfb::command(&mut [0; 8], &mut [0; dfb::TOTALS], id, information);
+    let write = |id, information| dfb::command(&mut [0; dfb::STATE], &mut [0; dfb::TOTALS], id, information);
     assert_eq!(write(0x30, 0x6363), Ok(0x6363));
     assert_eq!(write(0x30, 0xFFFF), Ok(0x6363));
     assert_eq!(write(0x30, 0xAB16), Ok(0xA316));
@@ -71,10 +71,40 @@ fn two_spectra() {
         assert_eq!(dfb::tick(&mut state, &mut totals, &powers, &mut out), Ok(dfb::Tick::Collected));
         assert_eq!(totals[0], total);
         powers[0] = second;
-        assert_eq!(dfb::tick(&mut state, &mut totals, &powers, &mut out), Ok(dfb::Tick::Reported(18)));
+        assert_eq!(dfb::tick(&mut state, &mut totals, &powers, &mut out), Ok(dfb::Tick::Reported(dfb::Report { words: 18, number: 1 })));
         assert_eq!(out[..3], [0x4E, 0x00, code]);
         assert_eq!(dfb::expand_band(code), Ok(printed));
     }
+}
+
+/// Ticket 13: N = C = 1, so that each tick reports. The number stays at 65,535, a refused command leaves it, an accepted one sets it to 0, and
+/// a state that has one and is not running is refused by 3.
+#[test]
+fn report_numbers() {
+    let (mut state, mut totals, powers, mut out) = ([0; dfb::STATE], [0; dfb::TOTALS], [0; dfb::POWERS], [0; dfb::OUTPUT]);
+    assert_eq!(dfb::tick(&mut state, &mut totals, &powers, &mut out), Ok(dfb::Tick::Idle));
+    assert_eq!(dfb::command(&mut state, &mut totals, 0x30, 0x0020), Ok(0x0020));
+    for number in (1..=65535).chain([65535, 65535]) {
+        let answer = dfb::tick(&mut state, &mut totals, &powers, &mut out);
+        assert_eq!(answer, Ok(dfb::Tick::Reported(dfb::Report { words: 18, number })));
+        assert_eq!(state, [0x0020, 0, 0, 0, 0, 0, 0, 0, number]);
+        if number % 8192 == 0 || number == 65535 {
+            assert_eq!(dfb::command(&mut state, &mut totals, 0x37, 0x0020), Err(Refusal::UnknownCommand));
+        }
+    }
+    assert_eq!(dfb::command(&mut state, &mut totals, 0x30, 0x0020), Ok(0x0020));
+    assert_eq!(state, [0x0020, 0, 0, 0, 0, 0, 0, 0, 0]);
+    let answer = dfb::tick(&mut state, &mut totals, &powers, &mut out);
+    assert_eq!(answer, Ok(dfb::Tick::Reported(dfb::Report { words: 18, number: 1 })));
+
+    state[0] = 0x0120; // N is above C
+    let before = state;
+    assert_eq!(dfb::tick(&mut state, &mut totals, &powers, &mut out), Err(Refusal::UnsoundState));
+    assert_eq!(dfb::command(&mut state, &mut totals, 0x30, 0x0020), Err(Refusal::UnsoundState));
+    assert_eq!(dfb::read(&state, 0x30), Ok(0x0120));
+    assert_eq!(state, before);
+    state[8] = 0;
+    assert_eq!(dfb::tick(&mut state, &mut totals, &powers, &mut out), Ok(dfb::Tick::Idle));
 }
 
 /// Ticket 2: V_B1 has V1B1 to V6B1 and then VDC_AVG; a log made with six words may end in refusal 5.

@@ -1,6 +1,6 @@
 //! The plain C of the benchmark and its plain Rust tick against the model, so that it compares programs that do the same.
 use crate::implementations::{plain_c, plain_rust};
-use crate::model::{self, Board, POWERS, TOTALS};
+use crate::model::{self, Board, POWERS, STATE, TOTALS};
 use crate::random::{seeds, Buffer, Random};
 use crate::{board, logs};
 
@@ -10,7 +10,7 @@ fn tick_number(answer: &model::Answer<model::Tick>) -> u32 {
         Ok(model::Tick::Idle) => 0,
         Ok(model::Tick::Collected) => 1,
         Ok(model::Tick::Waiting) => 2,
-        Ok(model::Tick::Reported(report)) => 0x20000 + report.bytes.len() as u32 / 3,
+        Ok(model::Tick::Reported(report)) => 0x80000000 + report.bytes.len() as u32 / 3 * 65536 + report.number as u32,
         Err(refusal) => 0x10000 + *refusal as u32,
     }
 }
@@ -31,7 +31,7 @@ fn ticks() {
                 let mut out = board::random_out(&mut r);
                 let (mut expected, mut expected_out) = (memory.clone(), out.clone());
                 let answer = match &mut board {
-                    Ok(board) => board.tick(8, TOTALS, &powers, 1176),
+                    Ok(board) => board.tick(STATE, TOTALS, &powers, 1176),
                     Err(refusal) => Err(*refusal),
                 };
                 if let Ok(board) = &board {
@@ -45,7 +45,7 @@ fn ticks() {
                 assert_eq!((&memory, &out), (&expected, &expected_out));
             }
         }
-        let (mut state, mut totals, powers, mut out) = ([0; 8], [0; TOTALS], [0; POWERS], [0; 1176]);
+        let (mut state, mut totals, powers, mut out) = ([0; STATE], [0; TOTALS], [0; POWERS], [0; 1176]);
         assert_eq!((implementation.tick)(&mut state, &mut totals, &powers[1..], &mut out), 0x10002);
         assert_eq!((implementation.tick)(&mut state, &mut totals, &powers, &mut out[1..]), 0x10002);
         assert_eq!((implementation.tick)(&mut state, &mut totals[1..], &powers, &mut out), 0x10002);

@@ -12,7 +12,7 @@ returns : tie.Need-returns
 returns c =
     let a = c .before .before .before .args in
     let left = c .before .write .ensures ∙ write-takes (a .state .registers) (a .id) (a .information) (c .before .before .before .pre .0) (c .before .before .before .pre .1) in
-    ap₂ (λ (x : Answer) (r : Registers). record { answer = x; state = record { registers = r; phase = 0 } })
+    ap₂ (λ (x : Answer) (r : Registers). record { answer = x; state = record { registers = r; phase = 0; reports = 0 } })
     (answer-given _ _ (ap (λ (o : WriteOutcome). o .answer) left)) (ap (λ (o : WriteOutcome). o .registers) left)
 
 pub accepted-command-spec : {M : Type 1} → statement M

@@ -7,7 +7,7 @@ use lib.Dec.{ltb, eqb}
 use borrow.Author.Tests.{eq-eqb, ne-eqb, lt-ltb, le-ltb}
 use Rattle.settings.specs.Settings.{averagedSpectra}
 use Rattle.settings.proofs.Settings.{averaged-pos, period-pos, period-le}
-use Rattle.model.specs.Board.{atNextPhase, runningOutcome}
+use Rattle.model.specs.Board.{atNextPhase, reportCounted, runningOutcome}
 use Rattle.board.proofs.Ticking.{phase-in, sums-here}
 use borrow.Author.Needs.{needs}
 use Rattle.board.proofs.running_tick.Statement.{statement}
@@ -27,10 +27,10 @@ next-phase-requires c κs =
     )
 
 -- the state at the next phase
-moves : (c : tie.After-next-phase) → record { registers = c .before .before .before .before .before .before .before .args .state .registers; phase = c .next-phase .result } ≡ atNextPhase (c .before .before .before .before .before .before .before .args .state)
+moves : (c : tie.After-next-phase) → record { registers = c .before .before .before .before .before .before .before .args .state .registers; phase = c .next-phase .result; reports = c .before .before .before .before .before .before .before .args .state .reports } ≡ atNextPhase (c .before .before .before .before .before .before .before .args .state)
 moves c =
     let s = c .before .before .before .before .before .before .before .args .state in
-    ap (λ (p : ℕ). record { registers = s .registers; phase = p })
+    ap (λ (p : ℕ). record { registers = s .registers; phase = p; reports = s .reports })
     (c .next-phase .ensures ∙ ap (λ (k : ℕ). cond (eqb (s .phase) (k - 1)) 0 (s .phase + 1)) (c .before .before .period-ticks .ensures))
 
 returns : tie.Need-returns
@@ -46,14 +46,15 @@ returns c =
     )
 
 reporting-tick-requires : tie.Need-reporting-tick-requires
-reporting-tick-requires c κs = (c .before .before .before .before .before .before .before .before .before .before .before .pre, (omega (arith, c .before .before .before .before .before .averaged-spectra .ensures), moves (c .before .before .before .before)))
+reporting-tick-requires c κs =
+    (c .before .before .before .before .before .before .before .before .before .before .before .before .pre, (omega (arith, c .before .before .before .before .before .before .averaged-spectra .ensures), c .before .before .report-counted .ensures ∙ ap reportCounted (moves (c .before .before .before .before .before))))
 
 returns-2 : tie.Need-returns-2
 unfolding runningOutcome
 returns-2 c =
-    let s = c .before .before .before .before .before .before .before .before .before .before .before .before .before .before .before .before .args .state in
-    let late : ltb (s .phase) (averagedSpectra (s .registers) - 1) ≡ false = le-ltb (s .phase) (averagedSpectra (s .registers) - 1) (omega (arith, c .before .before .before .before .before .before .before .before .before .before .averaged-spectra .ensures)) in
-    let at-last : eqb (s .phase) (averagedSpectra (s .registers) - 1) ≡ true = eq-eqb (s .phase) (averagedSpectra (s .registers) - 1) (omega (arith, c .before .before .before .before .before .before .before .before .before .before .averaged-spectra .ensures)) in
+    let s = c .before .before .before .before .before .before .before .before .before .before .before .before .before .before .before .before .before .args .state in
+    let late : ltb (s .phase) (averagedSpectra (s .registers) - 1) ≡ false = le-ltb (s .phase) (averagedSpectra (s .registers) - 1) (omega (arith, c .before .before .before .before .before .before .before .before .before .before .before .averaged-spectra .ensures)) in
+    let at-last : eqb (s .phase) (averagedSpectra (s .registers) - 1) ≡ true = eq-eqb (s .phase) (averagedSpectra (s .registers) - 1) (omega (arith, c .before .before .before .before .before .before .before .before .before .before .before .averaged-spectra .ensures)) in
     rw (late, at-last) (c .before .before .before .before .reporting-tick .ensures)
 
 returns-3 : tie.Need-returns-3
@@ -75,6 +76,7 @@ running-tick-spec =
     (λ c κs. search needs)
     (λ c. search needs)
     returns
+    (λ c κs. search needs)
     reporting-tick-requires
     (λ c. search needs)
     (λ c. search needs)

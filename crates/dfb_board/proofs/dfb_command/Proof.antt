@@ -20,7 +20,7 @@ returns-2 c =
     let at-load = c .before .before .before .before .before .before .before .before .before .before in
     let a = at-load .before .before .before .before .before .args in
     let done : _≡_ {A = CommandOutcome} _ (commandOutcome (at-load .load .result) (a .totals .now) (a .id) (a .information)) = c .before .before .before .before .before .before .before .before .command .ensures in
-    command-done _ _ (c .answer-16 .ensures ∙ command-number (c .before .before .before .before .before .before .before .before .command .result .answer)) (c .before .before .before .store .ensures)
+    command-done _ _ (c .answer-16 .ensures ∙ command-number (c .before .before .before .before .before .before .before .before .command .result .answer) _) (c .before .before .before .store .ensures)
     (done ∙ ap (λ (s : State). commandOutcome s (a .totals .now) (a .id) (a .information)) (at-load .load .ensures))
     ∙ command-state (a .state .now) (omega arith) (a .totals .now) (a .id) (a .information)
 

@@ -10,13 +10,14 @@ use Rattle.dfb_board.proofs.load.Tie as tie
 
 returns : tie.Need-returns
 returns c =
-    let l = c .before .before .before .before .before .before .before .before .args .state .now in
-    ap (λ (v : List ℕ). record { registers = record { value = v }; phase = getD l 7 0 }) (seven-of l (c .before .before .before .before .before .before .before .before .pre))
+    let l = c .before .before .before .before .before .before .before .before .before .args .state .now in
+    ap (λ (v : List ℕ). record { registers = record { value = v }; phase = getD l 7 0; reports = getD l 8 0 }) (seven-of l (c .before .before .before .before .before .before .before .before .before .pre))
 
 pub load-spec : {M : Type 1} → statement M
 load-spec =
     tie.close
     (tie.spec
+    (λ c. search needs)
     (λ c. search needs)
     (λ c. search needs)
     (λ c. search needs)

@@ -6,7 +6,7 @@ use Rattle.model.proofs.State.reset.Statement.{statement}
 use Rattle.model.proofs.State.reset.Tie as tie
 
 returns : tie.Need-returns
-returns c = ap (λ (r : Registers). record { registers = r; phase = 0 }) (c .reset .ensures)
+returns c = ap (λ (r : Registers). record { registers = r; phase = 0; reports = 0 }) (c .reset .ensures)
 
 pub reset-spec : {M : Type 1} → statement M
 reset-spec = tie.close (tie.spec (λ c κs. search needs) returns)
