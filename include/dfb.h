@@ -26,11 +26,12 @@
 #include <stddef.h>
 #include <stdint.h>
 
-/* The minor number rises with every function that is added or changed; the soname of libdfb.so is libdfb.so.MAJOR. */
-#define DFB_VERSION "0.6.0"
+/* The minor number rises with every function that is added or changed, the patch number with a ticket that adds and changes none; the
+ * soname of libdfb.so is libdfb.so.MAJOR. */
+#define DFB_VERSION "0.6.1"
 #define DFB_VERSION_MAJOR 0
 #define DFB_VERSION_MINOR 6
-#define DFB_VERSION_PATCH 0
+#define DFB_VERSION_PATCH 1
 
 #ifdef __cplusplus
 extern "C" {

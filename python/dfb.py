@@ -9,7 +9,7 @@ import ctypes
 import os
 import typing
 
-__version__ = "0.6.0"
+__version__ = "0.6.1"
 
 STATE, TOTALS, POWERS, OUTPUT = 9, 784, 7168, 1176
 RECORD, MOST_WORDS = 3, 7

@@ -272,6 +272,7 @@ WRONG_EDITS = [
     ("header", "/* a slot is already sending */", "/* a slot is sending */"),
     ("header", 'return "the set is not complete"', 'return "the set is complete"'),
     ("header", "#define DFB_VERSION_MINOR ", "#define DFB_VERSION_MINOR 1"),
+    ("header", "#define DFB_VERSION_PATCH ", "#define DFB_VERSION_PATCH 1"),
     ("header", "#define DFB_RATE 0u", "#define DFB_RATE 1u"),
     ("header", "#define DFB_TOTALS 784", "#define DFB_TOTALS 784\n#define DFB_MORE (1u << 3)"),
     ("header", "uint8_t dfb_compress_band(uint32_t value);", "uint8_t dfb_compress_band(uint32_t value);\nextern int dfb_more (void);"),

@@ -134,11 +134,13 @@ class Python(unittest.TestCase):
         self.assertEqual((dfb.compress_band(15), dfb.expand_band(0x0F)), (0x14, 14))
         self.assertEqual((dfb.compress_band(2**32 - 1), dfb.expand_band(0xF4)), (0xF4, 2**32))
         self.assertEqual((dfb.compress_sum(2**64 - 1), dfb.expand_sum(0xFC01)), (0xDBFF, 2**63))
+        self.assertEqual([dfb.band_of(setting, 1023) for setting in range(3)], [35, 63, 111])
         self.assertEqual((dfb.band_of(0, 512), dfb.describe_band(2, 111)), (32, (7936.0, 8064.0, 256.0)))
         self.refused(7, dfb.expand_band, 0x08)
         self.refused(7, dfb.expand_band, 0xF5)
         self.refused(8, dfb.expand_sum, 0xFC02)
         self.refused(12, dfb.band_of, 3, 0)
+        self.refused(12, dfb.band_of, 2, 1024)
         self.refused(12, dfb.describe_band, 0, 36)
 
     def test_bursts(self):

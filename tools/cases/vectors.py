@@ -3,7 +3,8 @@
 
 Nothing here comes from the programs. The single numbers are those of 01, "Numbers on both sides", and of tickets 5 and 13, copied by hand. The
 band codes follow the sentences of 01 and ticket 5 on legal codes and on the nearest of them, and the cadences that on NCAD. The bands are
-the rows of tables 23, 24 and 25 of DOCUMENT, source document 002 as text, with the centre half-way between the edges.
+the rows of tables 23, 24 and 25 of DOCUMENT, source document 002 as text, with the centre half-way between the edges, and the band of an
+FFT bin is the row that holds it.
 """
 import os
 import sys
@@ -107,8 +108,16 @@ def cadences():
     yield "cadence 11 refused 12"
 
 
-def bands(document):
-    held = rows(document)
+def bins(held):
+    """Bin k spans 8 Hz from 8k Hz; the tables number bands from 1."""
+    for setting in range(3):
+        for k in range(1024):
+            band, = (number - 1 for table, number, low, high, _ in held if table == setting and low <= 8 * k and 8 * k + 8 <= high)
+            yield f"bin {setting} {k} {band}"
+        yield f"bin {setting} 1024 refused 12"
+
+
+def bands(held):
     for setting, count in ((0, 36), (1, 64), (2, 112)):
         for row in held:
             if row[0] == setting:
@@ -125,5 +134,6 @@ def write(crate, *parts):
 
 
 if __name__ == "__main__":
-    write("vectors", NUMBERS, band_codes(), nearest_codes(), cadences(), bands(sys.argv[1]))
+    held = rows(sys.argv[1])
+    write("vectors", NUMBERS, band_codes(), nearest_codes(), cadences(), bins(held), bands(held))
     write("board_vectors", board())

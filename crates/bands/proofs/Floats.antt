@@ -10,6 +10,8 @@ use lib.Ieee.{Float, nan, inf, fin, binary32, up, down, ofInt}
 use lib.Ieee.Exact.{HasValue}
 use lib.Ieee.Back.{round-whole}
 use borrow.Author.Tests.{leb-true, leb-false}
+use Rattle.lists.specs.Tables.{tabulate}
+use Rattle.lists.proofs.Tables.{tabulate-agree}
 use Rattle.refusal.specs.Outcome.{given, refused}
 use Rattle.refusal.proofs.Outcomes.{given-of}
 use Rattle.bands.specs.declared.Description.{Description}
@@ -19,7 +21,6 @@ use Rattle.bands.specs.Band.{sizeExponent, bandStart, bandWidth, hasBand
 use Rattle.registers.specs.Store.{bandCount}
 use Rattle.bands.specs.Answer.{whole, described, bandDescriptionOutcome, bandDescribed, rate, period, cadenceOutcome, cadenceOf}
 use Rattle.bands.specs.Exact.{ExactHertz, ExactDescription, ExactCadence}
-use Rattle.bands.proofs.Entries.{agree}
 use Rattle.bands.proofs.Settings.{range, known-of}
 
 pub whole-exact : (n : ℕ) → n ≤ 2 ^ 24 → HasValue (whole n) false n 1
@@ -65,9 +66,10 @@ exact-description setting b r is =
 
 -- the rate is 8 / C per second, and the period C / 8 seconds
 rate-exact : (choice : ℕ) → choice < 4 → HasValue (whole (8 / 2 ^ choice)) false 8 (2 ^ choice)
+unfolding tabulate
 rate-exact choice h =
     fraction (8 / 2 ^ choice) 8 (2 ^ choice) (le-trans (div-le-self 8 (2 ^ choice)) (lit≤ tt))
-    (agree (λ (k : ℕ). 8 / 2 ^ k * 2 ^ k) (λ (k : ℕ). 8) 4 refl choice h)
+    (tabulate-agree 4 (λ k. 8 / 2 ^ k * 2 ^ k) (λ k. 8) refl choice h)
 
 period-exact : (choice : ℕ) → 3 < choice → choice ≤ 10 → HasValue (whole (2 ^ choice / 8)) false (2 ^ choice) 8
 period-exact choice l h =

@@ -1,6 +1,4 @@
-pub mod Entries
 pub mod Rule
-pub mod FineBands
 pub mod Bins
 pub mod Settings
 pub mod Power

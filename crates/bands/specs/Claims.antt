@@ -1,10 +1,7 @@
 -- 01, "Bands": what is claimed of the rule. S is 2 ^ s. Assumes nothing.
 use mathlib.Core.Path.{_≡_}
 use mathlib.Core.Logic.{_↔_}
-use mathlib.Core.List.{List, [], _∷_}
-use Prim.Native.Nat.{ℕ, zero, suc, _+_, _*_, _/_, _^_, _≤_, _<_}
-use lib.ListN.{getD}
-use Rattle.codes.specs.Code.{exponent}
+use Prim.Native.Nat.{ℕ, suc, _+_, _^_, _≤_, _<_}
 use Rattle.registers.specs.Store.{bandCount}
 use Rattle.bands.specs.Band.{sizeExponent, octave, bandOf, bandStart, bandWidth, coarser}
 use Rattle.bands.specs.Power.{bandSum}
@@ -49,20 +46,3 @@ Partitioned = (setting : ℕ) → setting ≤ 2 → Partition setting
 -- the band of a bin at S, from its band at 2 · S
 abbrev pub BandCoarser : Type 0
 BandCoarser = (s k : ℕ) → bandOf s k ≡ coarser (2 ^ s) (bandOf (suc s) k)
-
--- ---- the table at 112 bands: a test of the whole table, which the constant FINE_BANDS passes, and the rule at each bin of a table that passes
-
--- the n values of f from i on
-abbrev pub values : {A : Type 0} → (ℕ → A) → ℕ → ℕ → List A
-values f i zero = []
-values f i (suc n) = f i ∷ values f (suc i) n
-
--- the band of bin k at S = 16 in the form that the test computes, by the least exponent
-abbrev pub computedBand : ℕ → ℕ
-computedBand k = 16 * exponent 5 k + k / 2 ^ exponent 5 k
-
-abbrev pub FineTable : List ℕ → Type 0
-FineTable table = table ≡ values computedBand 0 1024
-
-abbrev pub FineTableRule : Type 0
-FineTableRule = (table : List ℕ) → FineTable table → (k : ℕ) → k < 1024 → getD table k 0 ≡ bandOf 4 k

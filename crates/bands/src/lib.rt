@@ -1,15 +1,11 @@
 // FFT bins and bands (01, "Bands"): the band of a bin, the description of a band in hertz, and the cadence of reports.
 ghost use mathlib.Core.Path.{_≡_};
-ghost use Prim.Native.Nat.{_<_, _≤_, _-_};
-ghost use Rattle.bands.specs.Band.{bandOf, coarser};
+ghost use Prim.Native.Nat.{_-_};
 ghost use Rattle.bands.specs.Private.{bandBinsOutcome, bandBins};
 ghost use Rattle.bands.specs.Answer.{bandIndexOutcome, bandFound, bandDescriptionOutcome, bandDescribed, cadenceOutcome, cadenceOf};
 ghost use Rattle.bands.specs.Exact.{ExactDescription, ExactCadence};
 use refusal::Refusal;
 use registers::Registers;
-use table::FINE_BANDS;
-
-mod table;
 
 // The number of FFT bins.
 pub const BINS: u16 = 1024;
@@ -52,27 +48,6 @@ pub enum Cadence {
     Refused(Refusal),
 }
 
-// The band at 112 bands.
-fn fine_band(bin: u16) -> u8
-    requires { ⌜ bin < 1024 ⌝ }
-    ensures { λ r. ⌜ r ≡ bandOf 4 bin ⌝ }
-{
-    let i = bin as usize;
-    FINE_BANDS[i]
-}
-
-// The band that holds a given one where there are half as many to the octave.
-fn coarser_band(band: u8, size: u8) -> u8
-    requires { ⌜ size ≤ 8 ⌝ }
-    ensures { λ r. ⌜ r ≡ coarser size band ⌝ }
-{
-    if band < 2 * size {
-        band
-    } else {
-        band / 2 + size
-    }
-}
-
 // The band of an FFT bin at a bin setting; refusal 12 for a setting over 2 or a bin over 1023.
 pub fn band_of(setting: u8, bin: u16) -> BandIndex
     ensures { λ r. ⌜ bandIndexOutcome r ≡ bandFound setting bin ⌝ }
@@ -83,15 +58,11 @@ pub fn band_of(setting: u8, bin: u16) -> BandIndex
     if BINS <= bin {
         return BandIndex::Refused(Refusal::OutOfRange);
     }
-    let fine = fine_band(bin);
-    if setting == 2 {
-        return BandIndex::Band(fine);
-    }
-    let middle = coarser_band(fine, 8);
-    if setting == 1 {
-        return BandIndex::Band(middle);
-    }
-    BandIndex::Band(coarser_band(middle, 4))
+    let s = setting as u32 + 2;
+    // the octaves from that of S up to the bin's, 0 for a bin below S: a band there has 2^e bins, and the bin's is S * e + bin / 2^e
+    let e = codes::exponent(bin as u64, s + 1);
+    let band = ((e << s) + (bin as u32 >> e)) as u8;
+    BandIndex::Band(band)
 }
 
 // The exponent of the width of a band, from the number of its octave.

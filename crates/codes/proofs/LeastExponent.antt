@@ -64,7 +64,7 @@ leading-least w k v h =
       before = λ j l. le-over w v j (omega (arith, s .3, pow-suc 2 (w + j), pow-mono {i = suc (w + j)} {j = m} (omega (arith, s .1))));
     }
 
--- the one fact of both compressors, over the mantissa width
+-- the one fact of both compressors and of the bands, over the mantissa width
 pub exponent-leading : (w k v : ℕ) → v < 2 ^ k → exponent w v ≡ k - leadingZeros k v - w
 exponent-leading w k v h = exponent-unique w v (k - leadingZeros k v - w) (leading-least w k v h)
 

@@ -6,8 +6,8 @@ use mathlib.Core.List.{List, [], _∷_}
 use Prim.Native.Nat.{ℕ, zero, suc, _+_, _-_, _*_, _/_, _%_, _^_}
 use lib.Dec.{leb, ltb, eqb}
 
--- The least of e, e + 1, .., e + d that passes the test, and e + d where none before it does. It counts upwards, so that the table of 1,024
--- bins can be computed by it.
+-- The least of e, e + 1, .., e + d that passes the test, and e + d where none before it does. It counts upwards, so that the code of any
+-- 64-bit value can be computed by it.
 unfoldable pub leastFrom : (ℕ → Bool) → ℕ → ℕ → ℕ
 leastFrom test zero e = e
 leastFrom test (suc d) e = elim (test e) [ true ↦ e | false ↦ leastFrom test d (suc e) ]

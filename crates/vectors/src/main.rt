@@ -1,6 +1,6 @@
 // Prints what codes and bands answer for outside vectors: numbers of 01 and of ticket 5, all 256 band codes, the codes of values around
-// each quarter of a step of the mantissa, and every band of the frequency tables. tools/cases/vectors.py writes the expected output, from
-// 01, ticket 5 and document 002.
+// each quarter of a step of the mantissa, the band of every FFT bin and every band of the frequency tables. tools/cases/vectors.py writes
+// the expected output, from 01, ticket 5 and document 002.
 use bands::BandDescription;
 use bands::BandIndex;
 use bands::Cadence;
@@ -107,6 +107,13 @@ fn show_bin(setting: u8, bin: u16) {
     end();
 }
 
+// Every bin, and the first number past them.
+fn show_bins(setting: u8) {
+    for bin in 0u16..1025 {
+        show_bin(setting, bin);
+    }
+}
+
 // A band, numbered from 1: low edge, high edge, width and centre.
 fn show_description(setting: u8, band: u8) {
     name(b"band");
@@ -173,6 +180,9 @@ fn main() {
     show_small_codes();
     show_nearest_codes();
     show_cadences();
+    show_bins(0);
+    show_bins(1);
+    show_bins(2);
     show_descriptions(0, 37);
     show_descriptions(1, 65);
     show_descriptions(2, 113);

@@ -8,12 +8,13 @@ use lib.IntN.{pos}
 use lib.Ieee.{binary32, div, ofInt, ofBits}
 use borrow.Author.Needs.{needs}
 use borrow.Author.Tests.{le-leb, lt-leb}
+use Rattle.lists.specs.Tables.{tabulate}
+use Rattle.lists.proofs.Tables.{tabulate-agree}
 use Rattle.refusal.specs.Outcome.{Outcome, given}
 use Rattle.bands.specs.declared.Cadence.{Cadence}
 use Rattle.bands.specs.Answer.{whole, CadenceValue, rate, period, cadenceOutcome, cadenceOf}
 use Rattle.bands.specs.Exact.{ExactCadence}
 use Rattle.bands.proofs.Floats.{exact-cadence}
-use Rattle.bands.proofs.Entries.{agree}
 use Rattle.bands.proofs.cadence_of.Statement.{statement}
 use Rattle.bands.proofs.cadence_of.Tie as tie
 
@@ -31,8 +32,8 @@ computed : ℕ → Outcome CadenceValue
 computed choice = cond (leb (ticks choice) 8) (rateComputed choice) (periodComputed choice)
 
 right : (choice : ℕ) → choice < 11 → computed choice ≡ cadenceOf choice
-unfolding computed whole div ofInt ofBits
-right = agree computed cadenceOf 11 refl
+unfolding tabulate computed whole div ofInt ofBits
+right = tabulate-agree 11 computed cadenceOf refl
 
 -- the rule's answer is exact
 answered : (choice : ℕ) (r : Cadence) → cadenceOutcome r ≡ cadenceOf choice → (cadenceOutcome r ≡ cadenceOf choice) × ExactCadence choice r
