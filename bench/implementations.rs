@@ -7,13 +7,14 @@ type Tick = fn(&mut [u16], &mut [u64], &[u32], &mut [u8]) -> u32;
 pub struct Implementation {
     pub name: &'static str,
     pub tick: Tick,
+    pub coarse_totals: fn(u8, &[u64], &mut [u64]) -> u32,
     pub pack: fn(u8, &[i16], &mut [u8]) -> u32,
     pub listing: fn(&[u8], &mut [u8]) -> u64,
 }
 
 /// An implementation over C functions.
 macro_rules! over_c {
-    ($name:literal, $tick:path, $pack:path, $listing:path) => {
+    ($name:literal, $tick:path, $coarse:path, $pack:path, $listing:path) => {
         // SAFETY: each pointer is valid for its length, and no two slices overlap.
         Implementation {
             name: $name,
@@ -30,6 +31,7 @@ macro_rules! over_c {
                     out_len,
                 )
             },
+            coarse_totals: |setting, fine, out| unsafe { $coarse(setting, fine.as_ptr(), fine.len(), out.as_mut_ptr(), out.len()) },
             pack: |apid, samples, out| unsafe { $pack(apid, samples.as_ptr(), samples.len(), out.as_mut_ptr(), out.len()) },
             listing: |log, out| unsafe { $listing(log.as_ptr(), log.len(), out.as_mut_ptr(), out.len()) },
         }
@@ -39,7 +41,7 @@ macro_rules! over_c {
 /// The functions that one compiler made of plain.c.
 #[cfg(any(gcc, clang))]
 macro_rules! declare {
-    ($tick:ident, $pack:ident, $listing:ident, $sum:ident) => {
+    ($tick:ident, $coarse:ident, $pack:ident, $listing:ident, $sum:ident) => {
         extern "C" {
             fn $tick(
                 state: *mut u16,
@@ -51,6 +53,7 @@ macro_rules! declare {
                 out: *mut u8,
                 out_len: usize,
             ) -> u32;
+            fn $coarse(setting: u8, fine: *const u64, fine_len: usize, out: *mut u64, out_len: usize) -> u32;
             fn $pack(apid: u8, samples: *const i16, samples_len: usize, out: *mut u8, out_len: usize) -> u32;
             fn $listing(log: *const u8, log_len: usize, out: *mut u8, out_len: usize) -> u64;
             fn $sum(powers: *const u32, powers_len: usize) -> u64;
@@ -59,22 +62,22 @@ macro_rules! declare {
 }
 
 #[cfg(gcc)]
-declare!(gcc_tick, gcc_pack, gcc_listing, gcc_sum);
+declare!(gcc_tick, gcc_coarse_totals, gcc_pack, gcc_listing, gcc_sum);
 #[cfg(clang)]
-declare!(clang_tick, clang_pack, clang_listing, clang_sum);
+declare!(clang_tick, clang_coarse_totals, clang_pack, clang_listing, clang_sum);
 
 /// The proved library.
 pub fn proved() -> Implementation {
-    over_c!("proved", dfb::ffi::dfb_tick, dfb::ffi::dfb_pack, dfb::ffi::dfb_listing)
+    over_c!("proved", dfb::ffi::dfb_tick, dfb::ffi::dfb_coarse_totals, dfb::ffi::dfb_pack, dfb::ffi::dfb_listing)
 }
 
 /// Plain C by each compiler that is there.
 pub fn plain_c() -> Vec<Implementation> {
     vec![
         #[cfg(gcc)]
-        over_c!("gcc -O3", gcc_tick, gcc_pack, gcc_listing),
+        over_c!("gcc -O3", gcc_tick, gcc_coarse_totals, gcc_pack, gcc_listing),
         #[cfg(clang)]
-        over_c!("clang -O3", clang_tick, clang_pack, clang_listing),
+        over_c!("clang -O3", clang_tick, clang_coarse_totals, clang_pack, clang_listing),
     ]
 }
 
@@ -83,6 +86,7 @@ pub fn plain_rust() -> Implementation {
     Implementation {
         name: "plain Rust",
         tick: plain_rust::tick,
+        coarse_totals: plain_rust::coarse_totals,
         pack: |apid, samples, out| match model::pack(apid, samples, out) {
             Ok(count) => count as u32,
             Err(refusal) => 0x10000 + refusal as u32,

@@ -28,10 +28,10 @@
 
 /* The minor number rises with every function that is added or changed, the patch number with a ticket that adds and changes none; the
  * soname of libdfb.so is libdfb.so.MAJOR. */
-#define DFB_VERSION "0.6.1"
+#define DFB_VERSION "0.7.0"
 #define DFB_VERSION_MAJOR 0
-#define DFB_VERSION_MINOR 6
-#define DFB_VERSION_PATCH 1
+#define DFB_VERSION_MINOR 7
+#define DFB_VERSION_PATCH 0
 
 #ifdef __cplusplus
 extern "C" {
@@ -52,7 +52,8 @@ enum dfb_refusal_number {
     DFB_REFUSAL_UNKNOWN_RECORD_KIND = 9,   /* the record kind is none of 1 to 4 */
     DFB_REFUSAL_TRUNCATED_BODY = 10,       /* the log ends within a record */
     DFB_REFUSAL_INPUT_TOO_LONG = 11,       /* the log is over 65,536 bytes */
-    DFB_REFUSAL_OUT_OF_RANGE = 12,         /* a bin setting, band, FFT bin or NCAD choice is out of range */
+    DFB_REFUSAL_OUT_OF_RANGE = 12,         /* a bin setting, band, FFT bin or NCAD choice is out of range, or a target is not 36 or 64 bands */
+    DFB_REFUSAL_TOTAL_TOO_LARGE = 24,      /* a band total is over 2^49 */
     DFB_REFUSAL_TURNED_AWAY = 25,          /* no slot is free and no held slot has a smaller criterion */
     DFB_REFUSAL_NOTHING_TO_SEND = 26,      /* nothing is held to send, or no criterion is above 0 */
     DFB_REFUSAL_ALREADY_SENDING = 27,      /* a slot is already sending */
@@ -75,7 +76,8 @@ static inline const char *dfb_meaning(unsigned refusal)
     case DFB_REFUSAL_UNKNOWN_RECORD_KIND: return "the record kind is none of 1 to 4";
     case DFB_REFUSAL_TRUNCATED_BODY: return "the log ends within a record";
     case DFB_REFUSAL_INPUT_TOO_LONG: return "the log is over 65,536 bytes";
-    case DFB_REFUSAL_OUT_OF_RANGE: return "a bin setting, band, FFT bin or NCAD choice is out of range";
+    case DFB_REFUSAL_OUT_OF_RANGE: return "a bin setting, band, FFT bin or NCAD choice is out of range, or a target is not 36 or 64 bands";
+    case DFB_REFUSAL_TOTAL_TOO_LARGE: return "a band total is over 2^49";
     case DFB_REFUSAL_TURNED_AWAY: return "no slot is free and no held slot has a smaller criterion";
     case DFB_REFUSAL_NOTHING_TO_SEND: return "nothing is held to send, or no criterion is above 0";
     case DFB_REFUSAL_ALREADY_SENDING: return "a slot is already sending";
@@ -298,6 +300,18 @@ uint64_t dfb_expand_band(uint8_t code);
 /* The sum code of a value; 0 with the value of a sum code in value[0], or refusal 8, then 2 where value_len is 0. */
 uint16_t dfb_compress_sum(uint64_t value);
 uint32_t dfb_expand_sum(uint16_t code, uint64_t *value, size_t value_len);
+
+/* ---- coarse totals ---- */
+
+/* The lengths and the limit of dfb_coarse_totals: the totals of 112 bands, such as a processor's row of the board's totals, and the greatest
+ * total that is taken, 2^49. No total of up to 4,096 spectra is greater. */
+#define DFB_FINE_TOTALS 112
+#define DFB_MOST_TOTAL 0x2000000000000u
+
+/* Converts 112 totals to those of 36 bands (setting 0) or 64 (setting 1) of the same spectra: how many were written, dfb_band_count(setting),
+ * or refusal 12 for any other setting, 2 where fine_len is not 112 or out_len under that count, 24 where a total is over 2^49. It speaks of
+ * totals: printed values are rounded, and do not add up. */
+uint32_t dfb_coarse_totals(uint8_t setting, const uint64_t *fine, size_t fine_len, uint64_t *out, size_t out_len);
 
 /* ---- bursts ---- */
 

@@ -9,10 +9,11 @@ import ctypes
 import os
 import typing
 
-__version__ = "0.6.1"
+__version__ = "0.7.0"
 
 STATE, TOTALS, POWERS, OUTPUT = 9, 784, 7168, 1176
 RECORD, MOST_WORDS = 3, 7
+FINE_TOTALS, MOST_TOTAL = 112, 1 << 49
 END, COMMAND, WORD, SECOND_MARK, TICK = 0, 1, 2, 3, 4
 FREE, HELD, SENDING = 0, 1, 2
 
@@ -28,7 +29,8 @@ MEANINGS = {
     9: "the record kind is none of 1 to 4",
     10: "the log ends within a record",
     11: "the log is over 65,536 bytes",
-    12: "a bin setting, band, FFT bin or NCAD choice is out of range",
+    12: "a bin setting, band, FFT bin or NCAD choice is out of range, or a target is not 36 or 64 bands",
+    24: "a band total is over 2^49",
     25: "no slot is free and no held slot has a smaller criterion",
     26: "nothing is held to send, or no criterion is above 0",
     27: "a slot is already sending",
@@ -81,6 +83,7 @@ for _name, _answer, _arguments in (
     ("expand_sum", U32, [U16] + _list(U64)),
     ("describe_band", U32, [U8, U8] + _list(ctypes.c_float)),
     ("cadence_of", U32, [U8] + _list(ctypes.c_float)),
+    ("coarse_totals", U32, [U8] + _list(U64) + _list(U64)),
     ("burst_offer", U32, _list(U8) + _list(U32) + [U32]),
     ("burst_choose", U32, _list(U8) + _list(U32)),
     ("burst_finish", U32, _list(U8) + _list(U32)),
@@ -243,6 +246,12 @@ def cadence_of(choice):
     value = (ctypes.c_float * 1)()
     kind = _below_16(_library.dfb_cadence_of(_number(choice, 8), value, 1))
     return ("rate", "period")[kind], value[0]
+
+
+def coarse_totals(setting, fine):
+    """The totals of 36 bands (setting 0) or 64 (setting 1), from the 112 totals of the same spectra."""
+    fine, out = _numbers("Q", U64, fine), (U64 * FINE_TOTALS)()
+    return out[: _below_16(_library.dfb_coarse_totals(_number(setting, 8), fine, len(fine), out, len(out)))]
 
 
 class BurstSlots:

@@ -513,6 +513,66 @@ static void test_codes(void)
     REFUSED_32(2u, dfb_expand_sum(0x0600, NULL, 0));
 }
 
+/* ---- coarse totals ---- */
+
+/* A fine band belongs to the band of its bins, by dfb_band_of. */
+static void test_coarse_totals(void)
+{
+    uint64_t *fine = (uint64_t *)zero_list(DFB_FINE_TOTALS * sizeof *fine), *coarse = (uint64_t *)make_list(67 * sizeof *coarse);
+    uint64_t *longer = (uint64_t *)make_list((DFB_FINE_TOTALS + 1) * sizeof *longer);
+    CHECK(DFB_FINE_TOTALS == 112 && DFB_MOST_TOTAL == (uint64_t)1 << 49);
+    for (uint8_t setting = 0; setting < 2; setting++) {
+        size_t count = dfb_band_count(setting);
+        /* each fine band by itself, in an output with room to spare: its total is that of one band */
+        for (uint16_t bin = 0; bin < 1024; bin++) {
+            size_t band = dfb_band_of(setting, bin), fine_band = dfb_band_of(2, bin);
+            fine[fine_band] = 1000u + bin;
+            ACCEPTED_32(count, coarse, count * sizeof *coarse, dfb_coarse_totals(setting, fine, DFB_FINE_TOTALS, coarse, 67));
+            for (size_t b = 0; b < count; b++)
+                CHECK(coarse[b] == (b == band ? 1000u + bin : 0u));
+            fine[fine_band] = 0;
+        }
+        /* the totals of one spectrum */
+        uint64_t expected[64] = {0};
+        for (uint16_t bin = 0; bin < 1024; bin++) {
+            fine[dfb_band_of(2, bin)] += 4294967295u - 3u * bin;
+            expected[dfb_band_of(setting, bin)] += 4294967295u - 3u * bin;
+        }
+        ACCEPTED_32(count, coarse, count * sizeof *coarse, dfb_coarse_totals(setting, fine, DFB_FINE_TOTALS, coarse, count));
+        CHECK(memcmp(coarse, expected, count * sizeof *coarse) == 0);
+
+        /* 2^49 in every place is taken, and one more is not */
+        for (size_t i = 0; i < DFB_FINE_TOTALS; i++)
+            fine[i] = DFB_MOST_TOTAL;
+        ACCEPTED_32(count, coarse, count * sizeof *coarse, dfb_coarse_totals(setting, fine, DFB_FINE_TOTALS, coarse, 67));
+        CHECK(coarse[0] == DFB_MOST_TOTAL && coarse[count - 1] == (setting == 0 ? 4u : 2u) * DFB_MOST_TOTAL);
+        memset(coarse, 0xA5, 67 * sizeof *coarse);
+        for (size_t i = 0; i < DFB_FINE_TOTALS; i++) {
+            fine[i] = i % 2 == 0 ? DFB_MOST_TOTAL + 1 : UINT64_MAX;
+            REFUSED_32(24u, dfb_coarse_totals(setting, fine, DFB_FINE_TOTALS, coarse, 67));
+            REFUSED_32(24u, dfb_coarse_totals(setting, fine, DFB_FINE_TOTALS, coarse, count));
+            /* 2 before 24 */
+            REFUSED_32(2u, dfb_coarse_totals(setting, fine, DFB_FINE_TOTALS, coarse, count - 1));
+            REFUSED_32(2u, dfb_coarse_totals(setting, fine, DFB_FINE_TOTALS - 1, coarse, 67));
+            fine[i] = DFB_MOST_TOTAL;
+        }
+        REFUSED_32(2u, dfb_coarse_totals(setting, fine, DFB_FINE_TOTALS, coarse, count - 1));
+        REFUSED_32(2u, dfb_coarse_totals(setting, longer, DFB_FINE_TOTALS + 1, coarse, count));
+        REFUSED_32(2u, dfb_coarse_totals(setting, fine, DFB_FINE_TOTALS - 1, coarse, count));
+        REFUSED_32(2u, dfb_coarse_totals(setting, NULL, 0, coarse, 67));
+        REFUSED_32(2u, dfb_coarse_totals(setting, fine, DFB_FINE_TOTALS, NULL, 0));
+        memset(fine, 0, DFB_FINE_TOTALS * sizeof *fine);
+    }
+    /* 12 before 2 and 24 */
+    for (unsigned setting = 2; setting < 256; setting++) {
+        REFUSED_32(12u, dfb_coarse_totals((uint8_t)setting, fine, DFB_FINE_TOTALS, coarse, 67));
+        fine[5] = UINT64_MAX;
+        REFUSED_32(12u, dfb_coarse_totals((uint8_t)setting, fine, DFB_FINE_TOTALS, coarse, 67));
+        REFUSED_32(12u, dfb_coarse_totals((uint8_t)setting, NULL, 0, NULL, 0));
+        fine[5] = 0;
+    }
+}
+
 /* ---- bursts ---- */
 
 static void test_bursts(void)
@@ -593,7 +653,7 @@ static void test_interval(void)
 
 static void test_meanings(void)
 {
-    static const uint8_t numbers[] = {1, 2, 3, 4, 5, 6, 7, 8, 9, 10, 11, 12, 25, 26, 27, 28, 29};
+    static const uint8_t numbers[] = {1, 2, 3, 4, 5, 6, 7, 8, 9, 10, 11, 12, 24, 25, 26, 27, 28, 29};
     size_t found = 0;
     for (unsigned n = 0; n < 0x20000; n++) {
         int is_refusal = found < sizeof numbers && numbers[found] == n;
@@ -698,6 +758,7 @@ static const struct test {
     {"bands", test_bands},
     {"cadence", test_cadence},
     {"codes", test_codes},
+    {"coarse totals", test_coarse_totals},
     {"bursts", test_bursts},
     {"interval", test_interval},
     {"meanings", test_meanings},

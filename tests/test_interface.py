@@ -22,7 +22,8 @@ def read(*path):
 
 def sources():
     """The text of each declaration."""
-    crates = "refusal registers words log model listing bursts interval dfb_refusals dfb_board dfb_log dfb_bands dfb_bursts dfb_interval"
+    crates = "refusal registers words log model listing bursts interval coarse dfb_refusals"
+    crates += " dfb_board dfb_log dfb_bands dfb_bursts dfb_interval dfb_coarse"
     texts = {crate: read("crates", crate, "src", "lib.rt") for crate in crates.split()}
     texts.update(header=read("include", "dfb.h"), rust=read("rust", "src", "lib.rs"), python=read("python", "dfb.py"))
     texts.update(cargo=read("rust", "Cargo.toml"))
@@ -183,6 +184,7 @@ def rattle_constants(texts):
     constants["DFB_MOST_LISTED"] = rattle_constant(texts["listing"], "MOST")
     for name in ("Rate", "Period"):
         constants["DFB_" + name.upper()] = number(one(r"Cadence::%s\(\w+\) => put_value\(value, \w+, (\d+)\)" % name, texts["dfb_bands"]))
+    constants.update({"DFB_" + name: rattle_constant(texts["coarse"], name) for name in ("FINE_TOTALS", "MOST_TOTAL")})
     constants["DFB_MOST_SLOTS"] = rattle_constant(texts["bursts"], "MOST_SLOTS")
     constants.update({"DFB_SLOT_" + name: rattle_constant(texts["dfb_bursts"], name) for name in ("FREE", "HELD", "SENDING")})
     constants["DFB_MOST_BLOCKS"] = rattle_constant(texts["interval"], "MOST_BLOCKS")
@@ -212,7 +214,7 @@ def function_differences(texts, module):
 def constant_differences(texts, module):
     expected = {**rattle_constants(texts), **version_constants(texts["header"])}
     differences = compare("header", header_constants(texts["header"]), expected)
-    names = {"STATE", "TOTALS", "POWERS", "OUTPUT", "RECORD", "MOST_WORDS"}
+    names = {"STATE", "TOTALS", "POWERS", "OUTPUT", "RECORD", "MOST_WORDS", "FINE_TOTALS", "MOST_TOTAL"}
     python = {name: expected["DFB_" + name] for name in names}
     python.update({name: expected["DFB_KIND_" + name] for name in ("END", "COMMAND", "WORD", "SECOND_MARK", "TICK")})
     python.update({name: expected["DFB_SLOT_" + name] for name in ("FREE", "HELD", "SENDING")})
@@ -274,6 +276,9 @@ WRONG_EDITS = [
     ("header", "#define DFB_VERSION_MINOR ", "#define DFB_VERSION_MINOR 1"),
     ("header", "#define DFB_VERSION_PATCH ", "#define DFB_VERSION_PATCH 1"),
     ("header", "#define DFB_RATE 0u", "#define DFB_RATE 1u"),
+    ("header", "#define DFB_MOST_TOTAL 0x2000000000000u", "#define DFB_MOST_TOTAL 0x20000000000000u"),
+    ("header", "DFB_REFUSAL_TOTAL_TOO_LARGE = 24", "DFB_REFUSAL_TOTAL_TOO_LARGE = 23"),
+    ("header", "uint8_t setting, const uint64_t *fine", "uint8_t setting, uint64_t *fine"),
     ("header", "#define DFB_TOTALS 784", "#define DFB_TOTALS 784\n#define DFB_MORE (1u << 3)"),
     ("header", "uint8_t dfb_compress_band(uint32_t value);", "uint8_t dfb_compress_band(uint32_t value);\nextern int dfb_more (void);"),
     ("rust", "pub fn dfb_compress_band(value: u32) -> u8;", "pub fn dfb_compress_band(value: u32) -> u8; pub fn dfb_more(value: u8);"),
@@ -283,8 +288,12 @@ WRONG_EDITS = [
     ("rust", "pub const STATE: usize = 9", "pub const STATE: usize = 8"),
     ("rust", "const REPORTED: u32 = 0x8000_0000", "const REPORTED: u32 = 0x2_0000"),
     ("rust", "AlreadySending = 27,", "AlreadySending = 28,"),
+    ("rust", "pub const MOST_TOTAL: u64 = 0x2_0000", "pub const MOST_TOTAL: u64 = 0x1_0000"),
+    ("rust", "setting: u8, fine: *const u64, fine_len: usize, out: *mut u64", "setting: u8, fine: *mut u64, fine_len: usize, out: *const u64"),
     ("rust", '"a slot is already sending"', '"a slot is sending"'),
     ("python", '("expand_band", U64,', '("expand_band", U32,'),
+    ("python", '("coarse_totals", U32, [U8]', '("coarse_totals", U32, [U16]'),
+    ("python", "FINE_TOTALS, MOST_TOTAL = 112, 1 << 49", "FINE_TOTALS, MOST_TOTAL = 112, 1 << 48"),
     ("python", '("compress_band", U8, [U32])', '("compress_band", U8, [ctypes.c_int32])'),
     ("python", '("command", U32, _list(U16) + _list(U64)', '("command", U32, _list(U64) + _list(U16)'),
     ("python", "SECOND_MARK, TICK = 0, 1, 2, 3, 4", "TICK, SECOND_MARK = 0, 1, 2, 3, 4"),

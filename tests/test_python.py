@@ -143,6 +143,45 @@ class Python(unittest.TestCase):
         self.refused(12, dfb.band_of, 2, 1024)
         self.refused(12, dfb.describe_band, 0, 36)
 
+    def test_coarse_totals(self):
+        fine = list(range(1, 113))
+        self.assertEqual(dfb.coarse_totals(1, fine), fine[:16] + [a + b for a, b in zip(fine[16::2], fine[17::2])])
+        pairs = [a + b for a, b in zip(fine[8:16:2], fine[9:16:2])]
+        self.assertEqual(dfb.coarse_totals(0, fine), fine[:8] + pairs + [sum(fine[i : i + 4]) for i in range(16, 112, 4)])
+        self.refused(24, dfb.coarse_totals, 1, [dfb.MOST_TOTAL + 1] + [0] * 111)
+        self.refused(2, dfb.coarse_totals, 1, [2**64 - 1] * 111)
+        self.refused(2, dfb.coarse_totals, 0, [0] * 113)
+        self.refused(12, dfb.coarse_totals, 2, [])
+        self.assertEqual(dfb.coarse_totals(1, [dfb.MOST_TOTAL] * 112), [dfb.MOST_TOTAL] * 16 + [2 * dfb.MOST_TOTAL] * 48)
+
+    def test_coarse_totals_of_a_board(self):
+        board, powers = dfb.Board(), [3 * k + 1 for k in range(1024)] * 7
+        board.command(0x32, 0x0020)
+        board.command(0x30, 0x1180)
+        self.assertEqual(board.tick(powers), "collected")
+        expected = [0] * 36
+        for k in range(1024):
+            expected[dfb.band_of(0, k)] += 3 * k + 1
+        self.assertEqual(dfb.coarse_totals(0, board.totals[224:336]), expected)
+
+    def test_totals_and_printed_values(self):
+        """The handbook's example: 8 in bin 8 and 9 in bin 9. The printed values of 112 bands do not add up to what 36 bands print."""
+        powers = [8 if k == 8 else 9 if k == 9 else 0 for k in range(1024)] + [0] * 6144
+        printed, totals = {}, {}
+        for setting in (0, 2):
+            board = dfb.Board()
+            board.command(0x30, 0x1120 | setting << 6)  # N = 2: the totals of the first spectrum
+            self.assertEqual(board.tick(powers), "collected")
+            totals[setting] = board.totals[:112]
+            board.command(0x30, 0x0020 | setting << 6)  # N = 1
+            words = board.tick(powers).words
+            codes = [code for at in range(0, len(words), 3) for code in (words[at + 2], words[at + 1])]
+            printed[setting] = [dfb.expand_band(code) for code in codes]
+        self.assertEqual((totals[2][8:10], printed[2][8:10]), ([8, 9], [8, 10]))
+        self.assertEqual((dfb.coarse_totals(0, totals[2])[8], totals[0][8], printed[0][8]), (17, 17, 8))
+        from_printed = dfb.coarse_totals(0, printed[2])[8]
+        self.assertEqual((from_printed, dfb.expand_band(dfb.compress_band(from_printed // 2))), (18, 10))
+
     def test_bursts(self):
         slots = dfb.BurstSlots(2)
         self.refused(26, slots.choose)
@@ -193,6 +232,8 @@ class Python(unittest.TestCase):
             (dfb.read_record, (b"", -1)),
             (dfb.cadence_of, (256,)),
             (dfb.compress_band, (2**32,)),
+            (dfb.coarse_totals, (256, [0] * 112)),
+            (dfb.coarse_totals, (0, [2**64] * 112)),
             (dfb.compress_sum, (2**64,)),
             (dfb.expand_sum, (0x10000,)),
             (dfb.BurstSlots(1).offer, (2**32,)),

@@ -1,5 +1,5 @@
-//! Nanoseconds of tick, listing and pack: the proved library beside plain C and plain Rust, which make the same checks, in one run on the
-//! same inputs. Each figure is the best of many rounds (DFB_ROUNDS, 60 unless set). Before a row is timed, all must agree.
+//! Nanoseconds of tick, coarse totals, listing and pack: the proved library beside plain C and plain Rust, which make the same checks, in one
+//! run on the same inputs. Each figure is the best of many rounds (DFB_ROUNDS, 60 unless set). Before a row is timed, all must agree.
 #[path = "../../bench/implementations.rs"]
 mod implementations;
 #[path = "../tests/differential/model.rs"]
@@ -19,6 +19,7 @@ use std::time::Instant;
 const TICKS: usize = 168;
 const LISTINGS: usize = 4;
 const PACKS: usize = 4000;
+const CONVERSIONS: usize = 4000;
 
 /// Spectra that the ticks take in turn.
 struct Spectra(Vec<Vec<u32>>);
@@ -143,6 +144,23 @@ impl Bench {
         }
     }
 
+    fn coarse_totals(&self, setting: u8) {
+        let mut r = Random::new(4);
+        let fine: Vec<u64> = (0..dfb::FINE_TOTALS).map(|_| r.any_size() % (dfb::MOST_TOTAL + 1)).collect();
+        let mut results = vec![];
+        for implementation in &self.implementations {
+            let mut out = [0; 64];
+            results.push(((implementation.coarse_totals)(setting, &fine, &mut out), out));
+        }
+        assert!(results.iter().all(|result| *result == results[0]), "coarse totals: the implementations differ");
+        let best = self.best(|implementation| {
+            let mut out = [0; 64];
+            let mut convert = || (implementation.coarse_totals)(setting, black_box(&fine), black_box(&mut out)) as u64;
+            nanoseconds(CONVERSIONS, || (0..CONVERSIONS).map(|_| convert()).sum())
+        });
+        self.row(&format!("totals of 112 bands to {}", model::BAND_COUNT[setting as usize]), &best, false);
+    }
+
     fn listing(&self, name: &str, log: &[u8]) {
         let mut out = vec![0; model::listing_room(log.len())];
         let mut texts = vec![];
@@ -241,6 +259,7 @@ fn main() {
             }
         }
     }
+    (0..2).for_each(|setting| bench.coarse_totals(setting));
     let mut r = Random::new(3);
     bench.listing("a survey", &survey_log(&mut r));
     bench.listing("ticks", &[4; 65536]);

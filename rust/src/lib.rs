@@ -24,6 +24,11 @@ pub const POWERS: usize = 7168;
 /// The least length of a tick's output.
 pub const OUTPUT: usize = 1176;
 
+/// The number of fine totals that `coarse_totals` converts.
+pub const FINE_TOTALS: usize = 112;
+/// The greatest total that it takes: 2^49.
+pub const MOST_TOTAL: u64 = 0x2_0000_0000_0000;
+
 /// A refusal, with its number in the rules. 13 is not used.
 #[derive(Clone, Copy, Debug, PartialEq, Eq)]
 #[repr(u8)]
@@ -40,6 +45,7 @@ pub enum Refusal {
     TruncatedBody = 10,
     InputTooLong = 11,
     OutOfRange = 12,
+    TotalTooLarge = 24,
     TurnedAway = 25,
     NothingToSend = 26,
     AlreadySending = 27,
@@ -67,7 +73,8 @@ impl Refusal {
             Refusal::UnknownRecordKind => "the record kind is none of 1 to 4",
             Refusal::TruncatedBody => "the log ends within a record",
             Refusal::InputTooLong => "the log is over 65,536 bytes",
-            Refusal::OutOfRange => "a bin setting, band, FFT bin or NCAD choice is out of range",
+            Refusal::OutOfRange => "a bin setting, band, FFT bin or NCAD choice is out of range, or a target is not 36 or 64 bands",
+            Refusal::TotalTooLarge => "a band total is over 2^49",
             Refusal::TurnedAway => "no slot is free and no held slot has a smaller criterion",
             Refusal::NothingToSend => "nothing is held to send, or no criterion is above 0",
             Refusal::AlreadySending => "a slot is already sending",
@@ -90,6 +97,7 @@ impl Refusal {
             10 => Refusal::TruncatedBody,
             11 => Refusal::InputTooLong,
             12 => Refusal::OutOfRange,
+            24 => Refusal::TotalTooLarge,
             25 => Refusal::TurnedAway,
             26 => Refusal::NothingToSend,
             27 => Refusal::AlreadySending,
@@ -175,6 +183,7 @@ pub mod ffi {
         pub fn dfb_expand_sum(code: u16, value: *mut u64, value_len: usize) -> u32;
         pub fn dfb_describe_band(setting: u8, band: u8, three: *mut f32, three_len: usize) -> u32;
         pub fn dfb_cadence_of(choice: u8, value: *mut f32, value_len: usize) -> u32;
+        pub fn dfb_coarse_totals(setting: u8, fine: *const u64, fine_len: usize, out: *mut u64, out_len: usize) -> u32;
         pub fn dfb_burst_offer(status: *mut u8, status_len: usize, criteria: *mut u32, criteria_len: usize, criterion: u32) -> u32;
         pub fn dfb_burst_choose(status: *mut u8, status_len: usize, criteria: *mut u32, criteria_len: usize) -> u32;
         pub fn dfb_burst_finish(status: *mut u8, status_len: usize, criteria: *mut u32, criteria_len: usize) -> u32;
@@ -208,6 +217,11 @@ impl Board {
     /// As the function `tick`.
     pub fn tick(&mut self, powers: &[u32], out: &mut [u8]) -> Result<Tick, Refusal> {
         tick(&mut self.state, &mut self.totals, powers, out)
+    }
+
+    /// The totals of the spectra that this period has collected: 112 for each processor, those past the number of bands being 0.
+    pub fn totals(&self) -> &[u64; TOTALS] {
+        &self.totals
     }
 }
 
@@ -355,6 +369,24 @@ pub fn cadence_of(choice: u8, value: &mut [f32]) -> Result<Cadence, Refusal> {
         1 => Ok(Cadence::Period),
         other => panic!("libdfb answered {other}, which is no answer of a cadence"),
     }
+}
+
+/// Converts 112 totals to those of 36 bands (setting 0) or 64 (setting 1) of the same spectra: how many were written to `out`. Refusals 12, 2,
+/// then 24 for a total over `MOST_TOTAL`.
+///
+/// ```
+/// let mut board = dfb::Board::reset();
+/// board.command(0x30, 0x11A0)?; // processor 1, 112 bands, N = C = 2
+/// board.tick(&[3; dfb::POWERS], &mut [0; dfb::OUTPUT])?;
+/// let mut coarse = [0; 36];
+/// assert_eq!(dfb::coarse_totals(0, &board.totals()[..dfb::FINE_TOTALS], &mut coarse)?, 36);
+/// assert_eq!((coarse[0], coarse[8], coarse[35]), (3, 2 * 3, 128 * 3));
+/// # Ok::<(), dfb::Refusal>(())
+/// ```
+pub fn coarse_totals(setting: u8, fine: &[u64], out: &mut [u64]) -> Result<usize, Refusal> {
+    // SAFETY: as in command.
+    let number = unsafe { ffi::dfb_coarse_totals(setting, fine.as_ptr(), fine.len(), out.as_mut_ptr(), out.len()) };
+    answer(number.into(), REFUSED_16).map(|count| count as usize)
 }
 
 /// Offers a block to the burst slots (status 0 free, 1 held, 2 sending). Refusals 2, 3; a block that is turned away is an `Offer` too.

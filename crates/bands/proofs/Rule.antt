@@ -5,17 +5,16 @@ use mathlib.Core.Path.{_≡_, sym, ap, _∙_, subst}
 use mathlib.Core.Bool.{Bool, true, false}
 use mathlib.Core.Logic.{_⊎_, inl, inr}
 use Prim.Native.Nat.{ℕ, zero, suc, _+_, _-_, _*_, _/_, _^_, _≤_, _<_}
-use native.Mathlib.Nat.{zero-lt-suc, le-of-suc-le-suc, lt-of-lt-of-le, lt-of-not-le, eq-or-lt-of-le, mul-zero, mul-suc, mul-comm, mul-assoc, div-one, mul-div-mul-right, mul-add-div, mul-add-div-right, pow-suc}
-use native.Mathlib.Numerals.{add-one}
+use native.Mathlib.Nat.{le-of-suc-le-suc, lt-of-lt-of-le, lt-of-not-le, eq-or-lt-of-le, mul-zero, mul-suc, mul-comm, div-one, mul-div-mul-right, mul-add-div-right}
 use native.Mathlib.Decide.{decLt}
 use native.Mathlib.Omega.{arith}
-use lib.Pow.{pow-pos, pow-mono, pow-add, shr-shr}
+use lib.Pow.{pow-pos, pow-mono, pow-add}
 use lib.Count.{leadingZeros, leading-top}
 use borrow.Author.Tests.{lt-ltb, le-ltb, le-leb, lt-leb}
 use Rattle.codes.specs.Code.{exponent}
-use Rattle.codes.proofs.LeastExponent.{below-pow, Least, le-over, exponent-unique, exponent-leading, exponent-le}
-use Rattle.bands.specs.Band.{greatestTo, octave, bandOf, coarser}
-use Rattle.bands.specs.Claims.{OctaveGreatest, BandCoarser}
+use Rattle.codes.proofs.LeastExponent.{below-pow, Least, exponent-unique, exponent-leading, exponent-le}
+use Rattle.bands.specs.Band.{greatestTo, octave, bandOf}
+use Rattle.bands.specs.Claims.{OctaveGreatest}
 
 -- `greatestTo` finds the number that passes the test where none above it does
 greatestTo-at : (test : ℕ → Bool) (n r : ℕ) → r ≤ n → (0 < r → test r ≡ true) → ((j : ℕ) → r < j → test j ≡ false) → greatestTo test n ≡ r
@@ -81,34 +80,3 @@ band-exponent s k = go (decLt k (2 ^ s))
 -- and so at any number that is the least exponent
 pub band-at : (s k e : ℕ) → Least (suc s) k e → bandOf s k ≡ 2 ^ s * e + k / 2 ^ e
 band-at s k e least = band-exponent s k ∙ ap (λ (x : ℕ). 2 ^ s * x + k / 2 ^ x) (exponent-unique (suc s) k e least)
-
--- below 2 · S a bin is a band of its own
-band-small : (s k : ℕ) → k < 2 ^ suc s → bandOf s k ≡ k
-band-small s k h = band-exponent s k ∙ unshifted s k (exponent (suc s) k) (omega (arith, exponent-le (suc s) (suc s) k h))
-
-pub band-coarser : BandCoarser
-unfolding coarser
-band-coarser s k = go (decLt k (2 ^ suc s))
-  where
-    e : ℕ
-    e = exponent (suc (suc s)) k
-
-    m : ℕ
-    m = k / 2 ^ e
-
-    go : Dec (k < 2 ^ suc s) → bandOf s k ≡ coarser (2 ^ s) (bandOf (suc s) k)
-    go (yes h) =
-        let same : bandOf (suc s) k ≡ k = band-small (suc s) k (omega (arith, pow-suc 2 (suc s))) in
-        band-small s k h ∙ sym (ap (coarser (2 ^ s)) same ∙ rw (lt-ltb k (2 * 2 ^ s) (omega (arith, pow-suc 2 s))))
-    go (no h) =
-        let top : 2 ^ suc s ≤ k = omega arith in
-        let next : exponent (suc s) k ≡ suc e = omega (arith, octave-exponent s k (omega (arith, pow-suc 2 s)), octave-exponent (suc s) k top) in
-        let half : k / 2 ^ suc e ≡ m / 2 = ap (λ (x : ℕ). k / 2 ^ x) (sym (add-one e)) ∙ sym (shr-shr k e 1) in
-        let coarse : bandOf s k ≡ 2 ^ s * suc e + m / 2 =
-        band-exponent s k ∙ ap (λ (x : ℕ). 2 ^ s * x + k / 2 ^ x) next ∙ ap (λ (x : ℕ). 2 ^ s * suc e + x) half
-        in
-        let fine : bandOf (suc s) k ≡ 2 * (2 ^ s * e) + m =
-        band-exponent (suc s) k ∙ ap (λ (x : ℕ). x * e + m) (pow-suc 2 s ∙ mul-comm (2 ^ s) 2) ∙ ap (λ (x : ℕ). x + m) (mul-assoc 2 (2 ^ s) e)
-        in
-        let wide : 2 * 2 ^ s ≤ 2 * (2 ^ s * e) + m = omega (arith, le-over (suc s) k e (reaches (suc s) k top), pow-suc 2 s) in
-        coarse ∙ sym (ap (coarser (2 ^ s)) fine ∙ rw (le-ltb _ _ wide, mul-add-div (zero-lt-suc 1) (2 ^ s * e) m) (omega (arith, mul-suc (2 ^ s) e)))

@@ -21,10 +21,6 @@ octave k = greatestTo (λ h. leb (2 ^ h) k) k
 unfoldable pub bandOf : ℕ → ℕ → ℕ
 bandOf s k = cond (ltb k (2 ^ s)) k (2 ^ s * (octave k - s + 1) + (k - 2 ^ octave k) * 2 ^ s / 2 ^ octave k)
 
--- The band at S that holds band b of the bands at 2 · S: two neighbouring ones from 2 · S on make one.
-unfoldable pub coarser : ℕ → ℕ → ℕ
-coarser size b = cond (ltb b (2 * size)) b (b / 2 + size)
-
 -- ---- the bins of band b: 2 ^ e bins from (b - S · e) · 2 ^ e on. They are the bins of the rule above (`BinsOfBand` of Claims.antt).
 
 unfoldable pub widthExponent : ℕ → ℕ → ℕ

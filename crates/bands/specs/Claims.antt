@@ -3,7 +3,7 @@ use mathlib.Core.Path.{_≡_}
 use mathlib.Core.Logic.{_↔_}
 use Prim.Native.Nat.{ℕ, suc, _+_, _^_, _≤_, _<_}
 use Rattle.registers.specs.Store.{bandCount}
-use Rattle.bands.specs.Band.{sizeExponent, octave, bandOf, bandStart, bandWidth, coarser}
+use Rattle.bands.specs.Band.{sizeExponent, octave, bandOf, bandStart, bandWidth}
 use Rattle.bands.specs.Power.{bandSum}
 
 -- 2 ^ h is the greatest power of two not above k
@@ -42,7 +42,3 @@ pub record Partition (setting : ℕ) : Type 0 where
 
 abbrev pub Partitioned : Type 0
 Partitioned = (setting : ℕ) → setting ≤ 2 → Partition setting
-
--- the band of a bin at S, from its band at 2 · S
-abbrev pub BandCoarser : Type 0
-BandCoarser = (s k : ℕ) → bandOf s k ≡ coarser (2 ^ s) (bandOf (suc s) k)

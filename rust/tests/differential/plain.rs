@@ -1,8 +1,8 @@
-//! The plain C of the benchmark and its plain Rust tick against the model, so that it compares programs that do the same.
+//! The plain C of the benchmark and its plain Rust tick and coarse totals against the model, so that it compares programs that do the same.
 use crate::implementations::{plain_c, plain_rust};
 use crate::model::{self, Board, POWERS, STATE, TOTALS};
 use crate::random::{seeds, Buffer, Random};
-use crate::{board, logs};
+use crate::{board, coarse, logs};
 
 /// A tick's answer as a number of include/dfb.h.
 fn tick_number(answer: &model::Answer<model::Tick>) -> u32 {
@@ -50,6 +50,20 @@ fn ticks() {
         assert_eq!((implementation.tick)(&mut state, &mut totals, &powers, &mut out[1..]), 0x10002);
         assert_eq!((implementation.tick)(&mut state, &mut totals[1..], &powers, &mut out), 0x10002);
         assert_eq!((implementation.tick)(&mut state[1..], &mut totals, &powers, &mut out), 0x10002);
+    }
+}
+
+#[test]
+fn coarse_totals() {
+    let mut r = Random::new(1);
+    for implementation in plain_c().into_iter().chain([plain_rust()]) {
+        for (setting, fine, room) in coarse::cases() {
+            let mut out = Buffer::of_length(room, || r.next());
+            let (expected, after) = coarse::expected(setting, &fine, &out, room);
+            let number = expected.map_or_else(|refusal| 0x10000 + refusal as u32, |count| count as u32);
+            assert_eq!((implementation.coarse_totals)(setting, &fine, out.list()), number);
+            assert_eq!(out, after);
+        }
     }
 }
 

@@ -1,7 +1,7 @@
 //! The refusals: numbers and texts, copied by hand.
 use dfb::Refusal;
 
-const REFUSALS: [(Refusal, u8, &str); 17] = [
+const REFUSALS: [(Refusal, u8, &str); 18] = [
     (Refusal::UnknownCommand, 1, "the command ID is outside 0x30 to 0x36"),
     (Refusal::WrongLength, 2, "a list has a wrong length, an output is too small, or a place or number does not fit"),
     (Refusal::UnsoundState, 3, "the state is not one that the board or the slots can have left"),
@@ -13,7 +13,8 @@ const REFUSALS: [(Refusal, u8, &str); 17] = [
     (Refusal::UnknownRecordKind, 9, "the record kind is none of 1 to 4"),
     (Refusal::TruncatedBody, 10, "the log ends within a record"),
     (Refusal::InputTooLong, 11, "the log is over 65,536 bytes"),
-    (Refusal::OutOfRange, 12, "a bin setting, band, FFT bin or NCAD choice is out of range"),
+    (Refusal::OutOfRange, 12, "a bin setting, band, FFT bin or NCAD choice is out of range, or a target is not 36 or 64 bands"),
+    (Refusal::TotalTooLarge, 24, "a band total is over 2^49"),
     (Refusal::TurnedAway, 25, "no slot is free and no held slot has a smaller criterion"),
     (Refusal::NothingToSend, 26, "nothing is held to send, or no criterion is above 0"),
     (Refusal::AlreadySending, 27, "a slot is already sending"),

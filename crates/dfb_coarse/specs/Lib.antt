@@ -1,0 +1,2 @@
+-- The C interface of coarse totals.
+pub mod Claims
