@@ -2,7 +2,8 @@
  *
  * Every function with external linkage is proved: for every input, refused ones too, its answer and the later contents of every list are
  * those of the rules (AUDIT.md). The inline functions take answers apart and give lengths; they are tested against the proved ones.
- * HANDBOOK.md has the rules for people: registers and their fields, reports, bands, words, the log, bursts, and a remedy for each refusal.
+ * HANDBOOK.md has the rules for people: registers and their fields, reports, bands, words, the log, command lists, bursts, and a remedy for
+ * each refusal.
  *
  * A call ends in an answer or in a refusal, which has a number (enum dfb_refusal_number). A refused call changes nothing: the state and every
  * list are as they were. Nothing has to be checked before a call; lists of any length may be passed, and a wrong length is refused by 2.
@@ -28,9 +29,9 @@
 
 /* The minor number rises with every function that is added or changed, the patch number with a ticket that adds and changes none; the
  * soname of libdfb.so is libdfb.so.MAJOR. */
-#define DFB_VERSION "0.7.0"
+#define DFB_VERSION "0.8.0"
 #define DFB_VERSION_MAJOR 0
-#define DFB_VERSION_MINOR 7
+#define DFB_VERSION_MINOR 8
 #define DFB_VERSION_PATCH 0
 
 #ifdef __cplusplus
@@ -53,6 +54,10 @@ enum dfb_refusal_number {
     DFB_REFUSAL_TRUNCATED_BODY = 10,       /* the log ends within a record */
     DFB_REFUSAL_INPUT_TOO_LONG = 11,       /* the log is over 65,536 bytes */
     DFB_REFUSAL_OUT_OF_RANGE = 12,         /* a bin setting, band, FFT bin or NCAD choice is out of range, or a target is not 36 or 64 bands */
+    DFB_REFUSAL_KIND_NOT_IN_PROFILE = 18,  /* the record is neither a command nor a second mark */
+    DFB_REFUSAL_SECOND_FALLS = 19,         /* the second is smaller than that of the mark before it */
+    DFB_REFUSAL_VALUE_ALTERED = 20,        /* the register would store another value than the one sent */
+    DFB_REFUSAL_AVERAGES_OVER_PERIOD = 21, /* a processor is enabled and N is above C */
     DFB_REFUSAL_TOTAL_TOO_LARGE = 24,      /* a band total is over 2^49 */
     DFB_REFUSAL_TURNED_AWAY = 25,          /* no slot is free and no held slot has a smaller criterion */
     DFB_REFUSAL_NOTHING_TO_SEND = 26,      /* nothing is held to send, or no criterion is above 0 */
@@ -77,6 +82,10 @@ static inline const char *dfb_meaning(unsigned refusal)
     case DFB_REFUSAL_TRUNCATED_BODY: return "the log ends within a record";
     case DFB_REFUSAL_INPUT_TOO_LONG: return "the log is over 65,536 bytes";
     case DFB_REFUSAL_OUT_OF_RANGE: return "a bin setting, band, FFT bin or NCAD choice is out of range, or a target is not 36 or 64 bands";
+    case DFB_REFUSAL_KIND_NOT_IN_PROFILE: return "the record is neither a command nor a second mark";
+    case DFB_REFUSAL_SECOND_FALLS: return "the second is smaller than that of the mark before it";
+    case DFB_REFUSAL_VALUE_ALTERED: return "the register would store another value than the one sent";
+    case DFB_REFUSAL_AVERAGES_OVER_PERIOD: return "a processor is enabled and N is above C";
     case DFB_REFUSAL_TOTAL_TOO_LARGE: return "a band total is over 2^49";
     case DFB_REFUSAL_TURNED_AWAY: return "no slot is free and no held slot has a smaller criterion";
     case DFB_REFUSAL_NOTHING_TO_SEND: return "nothing is held to send, or no criterion is above 0";
@@ -120,8 +129,8 @@ static inline unsigned dfb_refusal_u64(uint64_t answer)
     return answer < DFB_REFUSED_63 ? 0u : (unsigned)(answer & 0xFFu);
 }
 
-/* A refusal that has an offset is 2^63 + 256 * offset + its number: the offset. It is 0 in a refusal that has none, as are all of this
- * version. */
+/* A refusal that has an offset is 2^63 + 256 * offset + its number: the offset. Refusals of dfb_check_commands have one; it is 0 in those of
+ * every other function, which have none. */
 static inline uint64_t dfb_refusal_offset(uint64_t answer)
 {
     return (answer & ~DFB_REFUSED_63) >> 8;
@@ -264,6 +273,18 @@ static inline size_t dfb_listing_room(size_t log_len)
 /* Lists a log as the program setlist does: the bytes of text at the start of out, or refusal 2 where out is under
  * dfb_listing_room(log_len). The text is ASCII and does not end in 0. */
 uint64_t dfb_listing(const uint8_t *log, size_t log_len, uint8_t *out, size_t out_len);
+
+/* ---- command lists ---- */
+
+/* The number of registers, 0x30 to 0x36. */
+#define DFB_REGISTERS 7
+
+/* Checks a planner's command list, a log that is read from reset: it has nothing but commands and second marks; seconds never fall; every
+ * register stores exactly what is sent; and at each second mark and at the end no processor is enabled or N is at most C. 0 with the final
+ * registers in registers[0..7], or the refusal of the first record at fault with its offset, which dfb_refusal_offset gives. Refusals of a
+ * record: 9, 10, then 18, of a command 1, 20, of a second mark 19, 21; at the end 21, with the list's length as offset. Refusal 2, with
+ * offset 0, comes before all these where log_len is 2^55 or more, and after them where registers_len is under 7. */
+uint64_t dfb_check_commands(const uint8_t *log, size_t log_len, uint16_t *registers, size_t registers_len);
 
 /* ---- bands and codes ---- */
 

@@ -9,10 +9,11 @@ import ctypes
 import os
 import typing
 
-__version__ = "0.7.0"
+__version__ = "0.8.0"
 
 STATE, TOTALS, POWERS, OUTPUT = 9, 784, 7168, 1176
 RECORD, MOST_WORDS = 3, 7
+REGISTERS = 7
 FINE_TOTALS, MOST_TOTAL = 112, 1 << 49
 END, COMMAND, WORD, SECOND_MARK, TICK = 0, 1, 2, 3, 4
 FREE, HELD, SENDING = 0, 1, 2
@@ -30,6 +31,10 @@ MEANINGS = {
     10: "the log ends within a record",
     11: "the log is over 65,536 bytes",
     12: "a bin setting, band, FFT bin or NCAD choice is out of range, or a target is not 36 or 64 bands",
+    18: "the record is neither a command nor a second mark",
+    19: "the second is smaller than that of the mark before it",
+    20: "the register would store another value than the one sent",
+    21: "a processor is enabled and N is above C",
     24: "a band total is over 2^49",
     25: "no slot is free and no held slot has a smaller criterion",
     26: "nothing is held to send, or no criterion is above 0",
@@ -40,11 +45,12 @@ MEANINGS = {
 
 
 class Refused(Exception):
-    """A refusal; `number` is its number in the rules."""
+    """A refusal; `number` is its number in the rules, `offset` that of the record at fault, or None where the function gives no offset."""
 
-    def __init__(self, number):
-        super().__init__("refusal %d: %s" % (number, MEANINGS[number]))
-        self.number = number
+    def __init__(self, number, offset=None):
+        place = "" if offset is None else ", at offset %d" % offset
+        super().__init__("refusal %d: %s%s" % (number, MEANINGS[number], place))
+        self.number, self.offset = number, offset
 
 
 def _load():
@@ -76,6 +82,7 @@ for _name, _answer, _arguments in (
     ("append", U64, _list(U8) + [SIZE, U8, U8, U32]),
     ("read_record", U64, _list(U8) + [SIZE] + _list(U32)),
     ("listing", U64, _list(U8) + _list(U8)),
+    ("check_commands", U64, _list(U8) + _list(U16)),
     ("band_of", U16, [U8, U16]),
     ("compress_band", U8, [U32]),
     ("expand_band", U64, [U8]),
@@ -122,6 +129,13 @@ def _below_16(answer):
 
 def _below_63(answer):
     return _answer_below(1 << 63, answer)
+
+
+def _below_63_at(answer):
+    """The same where refusals have an offset."""
+    if answer >= 1 << 63:
+        raise Refused(answer & 0xFF, answer - (1 << 63) >> 8)
+    return answer
 
 
 class Report(typing.NamedTuple):
@@ -205,6 +219,14 @@ def listing(log):
     log = _numbers("B", U8, log)
     out = (U8 * (6 * len(log) + 64))()
     return bytes(out[: _below_63(_library.dfb_listing(log, len(log), out, len(out)))]).decode("ascii")
+
+
+def check_commands(log):
+    """Checks a planner's command list from reset: the final registers 0x30 to 0x36. Raises Refused with the offset of the first record at
+    fault, or with the list's length where the end is at fault."""
+    log, registers = _numbers("B", U8, log), (U16 * REGISTERS)()
+    _below_63_at(_library.dfb_check_commands(log, len(log), registers, REGISTERS))
+    return tuple(registers)
 
 
 def band_of(setting, fft_bin):

@@ -98,6 +98,13 @@ static void check(int line, int is_right, const char *what)
 #define REFUSED_32(number, call) REFUSED(uint32_t, 32, 0x10000u, number, call)
 #define REFUSED_64(number, call) REFUSED(uint64_t, 64, (uint64_t)1 << 63, number, call)
 
+/* The same of a refusal that has an offset. */
+#define REFUSED_AT(number, offset, call)                                                     \
+    do {                                                                                     \
+        REFUSED(uint64_t, 64, ((uint64_t)1 << 63) + (offset) * (uint64_t)256, number, call); \
+        check(__LINE__, dfb_refusal_offset(call) == (offset), #call " has another offset");  \
+    } while (0)
+
 /* A call is accepted with an answer, and changes at most the first so many bytes of one list. */
 #define ACCEPTED(type, bits, answer, changed, bytes, call)                  \
     do {                                                                    \
@@ -439,6 +446,130 @@ static void test_listing(void)
     CHECK(memcmp(long_text, too_long, sizeof too_long - 1) == 0);
 }
 
+/* ---- command lists ---- */
+
+enum { SEVEN = DFB_REGISTERS * sizeof(uint16_t) };
+
+static uint8_t *command_list;
+static uint16_t *registers;
+
+/* The check of a list of hexadecimal digits, which ends where its memory ends, with so many registers. */
+static uint64_t check_list(const char *digits, size_t registers_len)
+{
+    size_t length = strlen(digits) / 2;
+    uint8_t *start = command_list + 64 - length;
+    for (size_t i = 0; i < length; i++) {
+        unsigned byte = 0;
+        sscanf(digits + 2 * i, "%2x", &byte);
+        start[i] = (uint8_t)byte;
+    }
+    return dfb_check_commands(start, length, registers, registers_len);
+}
+
+/* A list that is accepted, and the registers that it leaves; a longer list of registers keeps its rest. */
+static void accepts(const char *digits, const uint16_t expected[DFB_REGISTERS])
+{
+    for (size_t length = DFB_REGISTERS; length <= 9; length++) {
+        memset(registers, 0xA5, 9 * sizeof *registers);
+        CHECK(check_list(digits, length) == 0);
+        CHECK(memcmp(registers, expected, SEVEN) == 0);
+        CHECK(registers[7] == 0xA5A5 && registers[8] == 0xA5A5);
+    }
+    /* 2 where there is no room for the registers */
+    for (size_t length = 0; length < DFB_REGISTERS; length++)
+        REFUSED_AT(2u, 0u, check_list(digits, length));
+}
+
+/* A list that is refused, before any length of the registers is looked at. */
+static void refuses(unsigned refusal, unsigned offset, const char *digits)
+{
+    for (size_t length = 0; length <= 9; length++) {
+        check_list(digits, length); /* writes the list, so that the next call changes nothing by itself */
+        REFUSED_AT(refusal, offset, check_list(digits, length));
+    }
+}
+
+static void test_check_commands(void)
+{
+    static const uint16_t reset[DFB_REGISTERS] = {0}, first[DFB_REGISTERS] = {0x3223}, all[DFB_REGISTERS] = {0xAAB6, 1, 2, 0x23, 4, 0x36, 6};
+    static const uint16_t over_and_off[DFB_REGISTERS] = {0x0103}, two[DFB_REGISTERS] = {0x3223, 0, 0, 0x0032};
+    command_list = (uint8_t *)zero_list(64);
+    registers = (uint16_t *)make_list(9 * sizeof *registers);
+    CHECK(DFB_REGISTERS == 7);
+
+    accepts("", reset);
+    accepts("0300000000", reset);
+    accepts("03FFFFFFFF", reset);
+    accepts("01303223", first);
+    accepts("0300000007" "01303223" "0300000007" "01330032" "0380000000", two);
+    accepts("0130AAB6" "01310001" "01320002" "01330023" "01340004" "01350036" "01360006", all);
+    /* N above C between two marks, and with no processor enabled */
+    accepts("0300000007" "01300123" "01303223" "0300000008", first);
+    accepts("01300103" "0300000007" "0300000008", over_and_off);
+    accepts("01300123" "01300103" "0300000008", over_and_off);
+    ACCEPTED_64(0u, registers, SEVEN, dfb_check_commands(NULL, 0, registers, 9));
+    CHECK(memcmp(registers, reset, SEVEN) == 0);
+
+    /* each refusal, as the first record and behind others */
+    refuses(9, 0, "00");
+    refuses(9, 4, "01303223" "0500000000");
+    refuses(10, 0, "013032");
+    refuses(10, 4, "01303223" "03000000");
+    refuses(18, 0, "04");
+    refuses(18, 4, "01303223" "02430001" "0300000007");
+    refuses(18, 5, "0300000007" "02420001");
+    refuses(1, 0, "01370020");
+    refuses(1, 5, "0300000007" "012F0020" "0300000008");
+    refuses(20, 0, "01300017");
+    refuses(20, 4, "01303223" "01333232");
+    refuses(19, 5, "0300000100" "03000000FF");
+    refuses(19, 9, "0380000000" "01303223" "037FFFFFFF" "0300000000");
+    refuses(21, 4, "01300123" "0300000007");
+    refuses(21, 8, "01300103" "01360020" "0300000007" "01303223");
+    /* at the end, the list's length */
+    refuses(21, 4, "01300123");
+    refuses(21, 13, "0300000007" "01303223" "01300123");
+
+    /* two faults in one record: 9, 10, 18; 1, 20; 19, 21 */
+    refuses(9, 0, "05");
+    refuses(10, 0, "024200");
+    refuses(10, 0, "0137FF");
+    refuses(1, 0, "0137FFFF");
+    refuses(19, 9, "0300000007" "01300123" "0300000006");
+    /* in two records: the first */
+    refuses(20, 0, "0130FFFF" "04");
+    refuses(18, 0, "04" "0130FFFF");
+    refuses(1, 4, "01300123" "01370000" "0300000007");
+    refuses(21, 4, "01300123" "0300000007" "01370000");
+
+    /* No list has 2^55 bytes. The pointer is not valid for so many, and need not be: the length is refused before a byte is read. */
+    command_list[0] = 0;
+    REFUSED_AT(2u, 0u, dfb_check_commands(command_list, (size_t)1 << 55, registers, 9));
+    REFUSED_AT(2u, 0u, dfb_check_commands(command_list, SIZE_MAX, registers, DFB_REGISTERS));
+    REFUSED_AT(2u, 0u, dfb_check_commands(command_list, (size_t)1 << 55, NULL, 0));
+    REFUSED_AT(2u, 0u, dfb_check_commands(NULL, 0, NULL, 0));
+    REFUSED_AT(9u, 0u, dfb_check_commands(command_list, 64, NULL, 0));
+}
+
+/* A list and an offset of more than 2^16 bytes. */
+static void test_long_lists_of_commands(void)
+{
+    enum { COMMANDS = 300000 };
+    uint8_t *commands = (uint8_t *)make_list(4 * COMMANDS + 1);
+    registers = (uint16_t *)make_list(DFB_REGISTERS * sizeof *registers);
+    for (size_t i = 0; i < COMMANDS; i++) {
+        commands[4 * i] = DFB_KIND_COMMAND;
+        commands[4 * i + 1] = (uint8_t)(0x30 + i % 7);
+        commands[4 * i + 2] = 0;
+        commands[4 * i + 3] = (uint8_t)(i % 0x17);
+    }
+    commands[4 * COMMANDS] = DFB_KIND_TICK;
+    ACCEPTED_64(0u, registers, SEVEN, dfb_check_commands(commands, 4 * COMMANDS, registers, DFB_REGISTERS));
+    for (size_t i = COMMANDS - 7; i < COMMANDS; i++)
+        CHECK(registers[i % 7] == i % 0x17);
+    REFUSED_AT(18u, 4u * COMMANDS, dfb_check_commands(commands, 4 * COMMANDS + 1, registers, DFB_REGISTERS));
+}
+
 /* ---- bands and codes ---- */
 
 static void test_bands(void)
@@ -653,7 +784,7 @@ static void test_interval(void)
 
 static void test_meanings(void)
 {
-    static const uint8_t numbers[] = {1, 2, 3, 4, 5, 6, 7, 8, 9, 10, 11, 12, 24, 25, 26, 27, 28, 29};
+    static const uint8_t numbers[] = {1, 2, 3, 4, 5, 6, 7, 8, 9, 10, 11, 12, 18, 19, 20, 21, 24, 25, 26, 27, 28, 29};
     size_t found = 0;
     for (unsigned n = 0; n < 0x20000; n++) {
         int is_refusal = found < sizeof numbers && numbers[found] == n;
@@ -755,6 +886,8 @@ static const struct test {
     {"append", test_append},
     {"read_record", test_read_record},
     {"listing", test_listing},
+    {"command lists", test_check_commands},
+    {"long command lists", test_long_lists_of_commands},
     {"bands", test_bands},
     {"cadence", test_cadence},
     {"codes", test_codes},

@@ -1,4 +1,4 @@
-"""Tests of what tools/dist built: the files of dist/, the program, the libraries, the README's examples, and an installation."""
+"""Tests of what tools/dist built: the files of dist/, the programs, the libraries, the README's examples, and an installation."""
 import os
 import re
 import shutil
@@ -20,6 +20,10 @@ COPIES = {
 }
 for _name in ("day-start", "bursts", "damaged", "rounded-down"):
     COPIES.update({"samples/%s.%s" % (_name, kind): ("", "share/doc/dfb") for kind in ("log", "txt")})
+for _name in ("commands", "commands-altered", "commands-period"):
+    COPIES.update({"samples/%s.%s" % (_name, kind): ("", "share/doc/dfb") for kind in ("list", "check")})
+# The programs, and what each prints for an empty input.
+PROGRAMS = {"setlist": b"DFB LOG 1\nEND 0\n", "checklist": b"OK 0000 0000 0000 0000 0000 0000 0000\n"}
 
 
 def read(*path):
@@ -59,14 +63,15 @@ class Tools(unittest.TestCase):
 
 class Dist(Tools):
     def test_files(self):
-        self.assertEqual(files_below(DIST), sorted(["libdfb.a", "libdfb.so", soname(), "dfb.pc", "setlist", *COPIES]))
+        self.assertEqual(files_below(DIST), sorted(["libdfb.a", "libdfb.so", soname(), "dfb.pc", *PROGRAMS, *COPIES]))
         for name, (folder, _) in COPIES.items():
             with open(os.path.join(DIST, name), "rb") as copy, open(os.path.join(TOP, folder, name), "rb") as original:
                 self.assertEqual(copy.read(), original.read(), name)
 
-    def test_program(self):
-        done = subprocess.run([os.path.join(DIST, "setlist")], input=b"\x04", capture_output=True)
-        self.assertEqual(done.stdout, b"DFB LOG 1\nT\nEND 1\n")
+    def test_programs(self):
+        for name, text in (("setlist", b"DFB LOG 1\nT\nEND 1\n"), ("checklist", b"BAD 18 0\n")):
+            done = subprocess.run([os.path.join(DIST, name)], input=b"\x04", capture_output=True)
+            self.assertEqual(done.stdout, text)
 
     def compile_and_run(self, compiler, options, text, expected):
         self.need(compiler)
@@ -157,7 +162,8 @@ class Libraries(Tools):
         for pattern, path, name in (
             (r"glibc (\d+)\.(\d+) or later", ("include", "dfb.h"), "libdfb.so"),
             (r"needs glibc (\d+)\.(\d+) or later", ("README.md",), "libdfb.so"),
-            (r"`setlist` glibc (\d+)\.(\d+)", ("README.md",), "setlist"),
+            (r"`setlist`(?: and `checklist`)? glibc (\d+)\.(\d+)", ("README.md",), "setlist"),
+            (r"`setlist`(?: and `checklist`)? glibc (\d+)\.(\d+)", ("README.md",), "checklist"),
         ):
             versions = re.findall(r"GLIBC_(\d+)\.(\d+)", output("objdump", "-T", os.path.join(DIST, name)))
             named = re.search(pattern, read(*path)).groups()
@@ -197,12 +203,14 @@ class Installation(Tools):
             output(os.path.join(TOP, "tools", "dist"), prefix)
             copies = [os.path.join(place, name) for name, (_, place) in COPIES.items()]
             libraries = ["lib/libdfb.a", "lib/libdfb.so", "lib/" + soname()]
-            self.assertEqual(files_below(prefix), sorted(["bin/setlist", "lib/pkgconfig/dfb.pc", *libraries, *copies]))
+            programs = ["bin/" + name for name in PROGRAMS]
+            self.assertEqual(files_below(prefix), sorted([*programs, "lib/pkgconfig/dfb.pc", *libraries, *copies]))
             for name, (_, place) in COPIES.items():
                 with open(os.path.join(prefix, place, name), "rb") as copy, open(os.path.join(DIST, name), "rb") as original:
                     self.assertEqual(copy.read(), original.read(), name)
-            done = subprocess.run([os.path.join(prefix, "bin", "setlist")], input=b"", capture_output=True)
-            self.assertEqual(done.stdout, b"DFB LOG 1\nEND 0\n")
+            for name, text in PROGRAMS.items():
+                done = subprocess.run([os.path.join(prefix, "bin", name)], input=b"", capture_output=True)
+                self.assertEqual(done.stdout, text)
             script = "import dfb; print(dfb.__version__, dfb._library._name)"
             environment = {"PYTHONPATH": os.path.join(prefix, "share", "dfb"), "PYTHONDONTWRITEBYTECODE": "1"}
             found, library = output(sys.executable, "-c", script, env=environment).strip().split(" ", 1)

@@ -23,7 +23,7 @@ def read(*path):
 def sources():
     """The text of each declaration."""
     crates = "refusal registers words log model listing bursts interval coarse dfb_refusals"
-    crates += " dfb_board dfb_log dfb_bands dfb_bursts dfb_interval dfb_coarse"
+    crates += " dfb_board dfb_log dfb_bands dfb_bursts dfb_interval dfb_coarse dfb_checker"
     texts = {crate: read("crates", crate, "src", "lib.rt") for crate in crates.split()}
     texts.update(header=read("include", "dfb.h"), rust=read("rust", "src", "lib.rs"), python=read("python", "dfb.py"))
     texts.update(cargo=read("rust", "Cargo.toml"))
@@ -169,7 +169,7 @@ def rattle_constants(texts):
     constants.update({"DFB_REFUSAL_" + name: value for name, value in rattle_refusals(texts["refusal"]).items()})
     constants["DFB_REFUSED_8"] = number(one(r"(\w+) \+ refusal::number\(refusal\) as u16", texts["dfb_bands"]))
     constants["DFB_REFUSED_16"] = number(one(r"(\w+) \+ refusal::number\(refusal\) as u32", texts["dfb_refusals"]))
-    constants["DFB_REFUSED_63"] = number(one(r"(\w+) \+ refusal::number\(refusal\) as u64", texts["dfb_refusals"]))
+    constants["DFB_REFUSED_63"] = number(one(r"(0x\w+) \+ refusal::number\(refusal\) as u64", texts["dfb_refusals"]))
     for name in ("Idle", "Collected", "Waiting"):
         constants["DFB_" + name.upper()] = number(one(r"TickAnswer::%s => (\w+)," % name, texts["dfb_board"]))
     constants["DFB_REPORTED"] = number(one(r"TickAnswer::Reported\(words\) => (\w+) \+ words as u32 \* 65536 \+ reports", texts["dfb_board"]))
@@ -182,6 +182,7 @@ def rattle_constants(texts):
     constants["DFB_KIND_END"] = number(one(r"Read::End => put_numbers\(numbers, at, (\d+), 0, 0\)", texts["dfb_log"]))
     constants["DFB_RECORD"] = number(one(r"numbers\.len\(\) < (\d+)", texts["dfb_log"]))
     constants["DFB_MOST_LISTED"] = rattle_constant(texts["listing"], "MOST")
+    constants["DFB_REGISTERS"] = rattle_constant(texts["registers"], "COUNT")
     for name in ("Rate", "Period"):
         constants["DFB_" + name.upper()] = number(one(r"Cadence::%s\(\w+\) => put_value\(value, \w+, (\d+)\)" % name, texts["dfb_bands"]))
     constants.update({"DFB_" + name: rattle_constant(texts["coarse"], name) for name in ("FINE_TOTALS", "MOST_TOTAL")})
@@ -214,7 +215,7 @@ def function_differences(texts, module):
 def constant_differences(texts, module):
     expected = {**rattle_constants(texts), **version_constants(texts["header"])}
     differences = compare("header", header_constants(texts["header"]), expected)
-    names = {"STATE", "TOTALS", "POWERS", "OUTPUT", "RECORD", "MOST_WORDS", "FINE_TOTALS", "MOST_TOTAL"}
+    names = {"STATE", "TOTALS", "POWERS", "OUTPUT", "RECORD", "MOST_WORDS", "REGISTERS", "FINE_TOTALS", "MOST_TOTAL"}
     python = {name: expected["DFB_" + name] for name in names}
     python.update({name: expected["DFB_KIND_" + name] for name in ("END", "COMMAND", "WORD", "SECOND_MARK", "TICK")})
     python.update({name: expected["DFB_SLOT_" + name] for name in ("FREE", "HELD", "SENDING")})
@@ -279,6 +280,11 @@ WRONG_EDITS = [
     ("header", "#define DFB_MOST_TOTAL 0x2000000000000u", "#define DFB_MOST_TOTAL 0x20000000000000u"),
     ("header", "DFB_REFUSAL_TOTAL_TOO_LARGE = 24", "DFB_REFUSAL_TOTAL_TOO_LARGE = 23"),
     ("header", "uint8_t setting, const uint64_t *fine", "uint8_t setting, uint64_t *fine"),
+    ("header", "#define DFB_REGISTERS 7", "#define DFB_REGISTERS 9"),
+    ("header", "DFB_REFUSAL_SECOND_FALLS = 19", "DFB_REFUSAL_SECOND_FALLS = 22"),
+    ("header", "/* a processor is enabled and N is above C */", "/* a processor is enabled and C is above N */"),
+    ("header", "uint64_t dfb_check_commands(const uint8_t *log", "uint64_t dfb_check_commands(uint8_t *log"),
+    ("header", "uint64_t dfb_check_commands(", "uint32_t dfb_check_commands("),
     ("header", "#define DFB_TOTALS 784", "#define DFB_TOTALS 784\n#define DFB_MORE (1u << 3)"),
     ("header", "uint8_t dfb_compress_band(uint32_t value);", "uint8_t dfb_compress_band(uint32_t value);\nextern int dfb_more (void);"),
     ("rust", "pub fn dfb_compress_band(value: u32) -> u8;", "pub fn dfb_compress_band(value: u32) -> u8; pub fn dfb_more(value: u8);"),
@@ -290,10 +296,17 @@ WRONG_EDITS = [
     ("rust", "AlreadySending = 27,", "AlreadySending = 28,"),
     ("rust", "pub const MOST_TOTAL: u64 = 0x2_0000", "pub const MOST_TOTAL: u64 = 0x1_0000"),
     ("rust", "setting: u8, fine: *const u64, fine_len: usize, out: *mut u64", "setting: u8, fine: *mut u64, fine_len: usize, out: *const u64"),
+    ("rust", "pub const REGISTERS: usize = 7", "pub const REGISTERS: usize = 9"),
+    ("rust", "log_len: usize, registers: *mut u16", "log_len: usize, registers: *const u16"),
+    ("rust", "ValueAltered = 20,", "ValueAltered = 21,"),
+    ("rust", "19 => Refusal::SecondFalls", "21 => Refusal::SecondFalls"),
     ("rust", '"a slot is already sending"', '"a slot is sending"'),
     ("python", '("expand_band", U64,', '("expand_band", U32,'),
     ("python", '("coarse_totals", U32, [U8]', '("coarse_totals", U32, [U16]'),
     ("python", "FINE_TOTALS, MOST_TOTAL = 112, 1 << 49", "FINE_TOTALS, MOST_TOTAL = 112, 1 << 48"),
+    ("python", '("check_commands", U64, _list(U8) + _list(U16))', '("check_commands", U64, _list(U8) + _list(U32))'),
+    ("python", "REGISTERS = 7\n", "REGISTERS = 9\n"),
+    ("python", '20: "the register would store another value', '20: "the register would store the value'),
     ("python", '("compress_band", U8, [U32])', '("compress_band", U8, [ctypes.c_int32])'),
     ("python", '("command", U32, _list(U16) + _list(U64)', '("command", U32, _list(U64) + _list(U16)'),
     ("python", "SECOND_MARK, TICK = 0, 1, 2, 3, 4", "TICK, SECOND_MARK = 0, 1, 2, 3, 4"),

@@ -1,15 +1,18 @@
 """Tests of the Python module, dist/dfb.py over libdfb.so."""
 import os
+import random
 import subprocess
 import sys
 import unittest
 
-from c_program import DIST
+from c_program import DIST, TOP
 
 os.environ.pop("DFB_LIB", None)
 sys.path.insert(0, DIST)
+sys.path.insert(0, os.path.join(TOP, "tools", "cases"))
 
 import dfb  # noqa: E402
+from checklist_model import Bad, check, command, mark, random_list  # noqa: E402
 
 EXAMPLE = """\
 stored 0x1120
@@ -26,10 +29,10 @@ refusal 1: the command ID is outside 0x30 to 0x36
 
 
 class Python(unittest.TestCase):
-    def refused(self, number, function, *arguments):
+    def refused(self, number, function, *arguments, offset=None):
         with self.assertRaises(dfb.Refused) as caught:
             function(*arguments)
-        self.assertEqual(caught.exception.number, number)
+        self.assertEqual((caught.exception.number, caught.exception.offset), (number, offset))
 
     def test_example(self):
         done = subprocess.run([sys.executable, os.path.join(DIST, "dfb.py")], capture_output=True, check=True)
@@ -119,6 +122,32 @@ class Python(unittest.TestCase):
         self.refused(1, dfb.read_record, b"\x01\x37\0\0", 0)
         self.refused(4, dfb.read_record, b"\x02\x42\0\0", 0)
 
+    def test_check_commands(self):
+        plan = mark(7) + command(0x30, 0x3223) + mark(7) + command(0x33, 0x0032) + mark(8)
+        self.assertEqual(dfb.check_commands(plan), (0x3223, 0, 0, 0x0032, 0, 0, 0))
+        self.assertEqual(dfb.check_commands(b""), (0,) * dfb.REGISTERS)
+        self.assertEqual(dfb.check_commands(bytearray(command(0x36, 0x0036) * 70000)), (0, 0, 0, 0, 0, 0, 0x0036))
+        self.refused(9, dfb.check_commands, b"\x05", offset=0)
+        self.refused(10, dfb.check_commands, plan[:-1], offset=18)
+        self.refused(18, dfb.check_commands, plan + b"\x04", offset=23)
+        self.refused(1, dfb.check_commands, command(0x37, 0xFFFF), offset=0)
+        self.refused(20, dfb.check_commands, plan + command(0x31, 0xFFFF), offset=23)
+        self.refused(19, dfb.check_commands, plan + mark(7), offset=23)
+        self.refused(21, dfb.check_commands, command(0x30, 0x0120) + plan, offset=4)
+        self.refused(21, dfb.check_commands, plan + command(0x30, 0x0120), offset=27)
+        self.refused(18, dfb.check_commands, command(0x36, 0x0036) * 70000 + b"\x04", offset=280000)
+
+    def test_check_of_random_lists(self):
+        r = random.Random(3)
+        for _ in range(2000):
+            log = random_list(r)
+            try:
+                expected = check(log)
+            except Bad as bad:
+                self.refused(bad.refusal, dfb.check_commands, log, offset=bad.offset)
+            else:
+                self.assertEqual(dfb.check_commands(log), tuple(expected))
+
     def test_cadence(self):
         values = [dfb.cadence_of(choice) for choice in range(11)]
         self.assertEqual(values[:4], [("rate", 8.0), ("rate", 4.0), ("rate", 2.0), ("rate", 1.0)])
@@ -129,6 +158,10 @@ class Python(unittest.TestCase):
         with self.assertRaises(dfb.Refused) as caught:
             dfb.BurstSlots(1).choose()
         self.assertEqual(str(caught.exception), "refusal 26: nothing is held to send, or no criterion is above 0")
+        self.assertEqual((dfb.Refused(26).number, dfb.Refused(26).offset), (26, None))
+        with self.assertRaises(dfb.Refused) as caught:
+            dfb.check_commands(b"\x04")
+        self.assertEqual(str(caught.exception), "refusal 18: the record is neither a command nor a second mark, at offset 0")
 
     def test_codes_and_bands(self):
         self.assertEqual((dfb.compress_band(15), dfb.expand_band(0x0F)), (0x14, 14))
@@ -230,6 +263,7 @@ class Python(unittest.TestCase):
             (dfb.unpack, (0x43, [256] * 9)),
             (dfb.append, (bytearray(9), 0, 4, 0, 2**32)),
             (dfb.read_record, (b"", -1)),
+            (dfb.check_commands, ([256],)),
             (dfb.cadence_of, (256,)),
             (dfb.compress_band, (2**32,)),
             (dfb.coarse_totals, (256, [0] * 112)),

@@ -5,17 +5,14 @@ SETLIST names the program where it is not target/bin/setlist.
 import os
 import random
 import re
-import shutil
-import subprocess
 import sys
 import tempfile
-import time
 import unittest
 import xml.etree.ElementTree
 
-TOP = os.path.dirname(os.path.dirname(os.path.abspath(__file__)))
-PROGRAM = os.environ.get("SETLIST", os.path.join(TOP, "target", "bin", "setlist"))
-WRAPPER = os.path.join(TOP, "setlist")
+import programs
+from programs import TOP, read, run, shell
+
 PLOT = os.path.join(TOP, "tools", "plot")
 SAMPLES = ("day-start", "bursts", "damaged", "rounded-down")
 sys.path.insert(0, os.path.join(TOP, "tools", "cases"))
@@ -28,19 +25,6 @@ WHOLE_TEXT = "DFB LOG 1\nC 30 0063\nW 43 1 -1 -32768\nS 7\nT\nEND 6\n"
 TOO_LONG = "DFB LOG 1\nBAD 11 65536\n"
 
 
-def read(*path, mode="r"):
-    with open(os.path.join(TOP, *path), mode) as file:
-        return file.read()
-
-
-def run(arguments, log=b"", **options):
-    return subprocess.run(arguments, input=log, capture_output=True, timeout=60, cwd=TOP, **options)
-
-
-def shell(command):
-    return subprocess.run(["bash", "-c", command], capture_output=True, timeout=60, cwd=TOP)
-
-
 def long_random_log(r, length):
     """Whole and damaged logs behind each other."""
     log = b""
@@ -49,9 +33,15 @@ def long_random_log(r, length):
     return log[:length]
 
 
-class Listings(unittest.TestCase):
+class OfSetlist:
+    name, program = "setlist", programs.built("setlist")
+    data, text = WHOLE_CASE, WHOLE_TEXT
+    sample, sample_text = "samples/day-start.log", read("samples", "day-start.txt")
+
+
+class Listings(OfSetlist, unittest.TestCase):
     def compare(self, log, text):
-        done = run([PROGRAM], log)
+        done = run([self.program], log)
         self.assertEqual(done.stdout.decode("ascii"), text)
         self.assertEqual((done.stderr, done.returncode), (b"", 0))
 
@@ -95,26 +85,7 @@ class Listings(unittest.TestCase):
             self.compare(log, listing(log))
 
 
-class Reads(unittest.TestCase):
-    def deliver(self, log, lengths, pause):
-        """The listing of a log that is written to a pipe in parts, with pauses."""
-        with subprocess.Popen([PROGRAM], stdin=subprocess.PIPE, stdout=subprocess.PIPE) as process:
-            at = 0
-            for length in lengths:
-                process.stdin.write(log[at:at + length])
-                process.stdin.flush()
-                at += length
-                time.sleep(pause)
-            self.assertGreaterEqual(at, len(log))
-            return process.communicate(timeout=60)[0].decode("ascii")
-
-    def test_byte_by_byte(self):
-        self.assertEqual(self.deliver(WHOLE_CASE, [1] * len(WHOLE_CASE), 0.002), WHOLE_TEXT)
-
-    def test_parts(self):
-        log = read("samples", "day-start.log", mode="rb")
-        self.assertEqual(self.deliver(log, [7, 1000, 1, 4096, len(log)], 0.02), read("samples", "day-start.txt"))
-
+class Reads(OfSetlist, programs.Reads, unittest.TestCase):
     def test_longest_input_in_parts(self):
         log = b"\x04" * 65536
         self.assertEqual(self.deliver(log, [16384] * 4, 0.02), listing(log))
@@ -123,99 +94,23 @@ class Reads(unittest.TestCase):
         self.assertEqual(self.deliver(b"\x04" * 65537, [65536, 1], 0.05), TOO_LONG)
 
 
-class Failures(unittest.TestCase):
-    """A read that fails prints nothing on standard output; a write that fails is named on standard error."""
-
-    def test_failed_reads(self):
-        for redirection in ("< .", "<&-"):
-            done = shell("exec '%s' %s" % (PROGRAM, redirection))
-            self.assertEqual(done.stdout, b"", redirection)
-            self.assertIn(b"standard input", done.stderr, redirection)
-
-    def test_failed_writes(self):
-        for redirection in ("> /dev/full", ">&-"):
-            done = shell("exec '%s' < samples/day-start.log %s" % (PROGRAM, redirection))
-            self.assertEqual(done.stdout, b"", redirection)
-            self.assertIn(b"standard output", done.stderr, redirection)
+class Failures(OfSetlist, programs.Failures, unittest.TestCase):
+    pass
 
 
-class Wrapper(unittest.TestCase):
-    def check(self, arguments, status, stdout, stderr="", log=b""):
-        done = run([WRAPPER] + arguments, log)
-        self.assertEqual(done.stdout.decode("ascii"), stdout)
-        self.assertEqual(done.returncode, status)
-        self.assertIn(stderr, done.stderr.decode())
-        self.assertEqual(stderr == "", done.stderr == b"")
-
+class Wrapper(OfSetlist, programs.Wrapper, unittest.TestCase):
     def test_end(self):
-        self.check([], 0, WHOLE_TEXT, log=WHOLE_CASE)
-        self.check(["samples/day-start.log"], 0, read("samples", "day-start.txt"))
         self.check(["samples/day-start.log", "samples/bursts.log"], 0, read("samples", "day-start.txt") + read("samples", "bursts.txt"))
 
     def test_bad(self):
-        self.check([], 1, "DFB LOG 1\nBAD 9 0\n", log=b"\x00")
+        self.check([], 1, "DFB LOG 1\nBAD 9 0\n", data=b"\x00")
         self.check(["samples/damaged.log"], 1, read("samples", "damaged.txt"))
         both = read("samples", "damaged.txt") + read("samples", "day-start.txt")
         self.check(["samples/damaged.log", "samples/day-start.log"], 1, both)
 
-    def test_missing_and_unreadable_files(self):
-        self.check(["samples/none.log"], 1, "", "there is no such file")
-        self.check(["samples"], 1, "", "it cannot be read")
-        self.check(["samples/none.log", "samples/day-start.log"], 1, read("samples", "day-start.txt"), "there is no such file")
 
-    def test_failed_reads_and_writes(self):
-        for redirection in ("< .", "<&-", "< samples/day-start.log > /dev/full", "< samples/day-start.log >&-"):
-            done = shell("./setlist " + redirection)
-            self.assertEqual((done.stdout, done.returncode), (b"", 1), redirection)
-            self.assertNotEqual(done.stderr, b"", redirection)
-
-    def test_help(self):
-        done = run([WRAPPER, "--help"])
-        self.assertEqual((done.returncode, done.stderr), (0, b""))
-        self.assertIn(b"./setlist FILE", done.stdout)
-
-
-class Building(unittest.TestCase):
-    """The wrapper in a repository whose program is not built."""
-
-    def setUp(self):
-        folder = tempfile.TemporaryDirectory()
-        self.addCleanup(folder.cleanup)
-        self.top, self.path = os.path.join(folder.name, "top"), os.path.join(folder.name, "path")
-        os.makedirs(os.path.join(self.top, "crates"))
-        os.makedirs(self.path)
-        shutil.copy(WRAPPER, self.top)
-        open(os.path.join(self.top, "crates.txt"), "w").close()
-        for tool in ("bash", "dirname", "find", "touch", "mktemp", "cat", "tail", "rm", "mkdir", "cp"):
-            os.symlink(shutil.which(tool), os.path.join(self.path, tool))
-
-    def wrapper(self):
-        return run([os.path.join(self.top, "setlist")], WHOLE_CASE, env={"PATH": self.path})
-
-    def toolchain(self, script):
-        """A command rt that does no more than the script."""
-        path = os.path.join(self.path, "rt")
-        with open(path, "w") as file:
-            file.write("#!%s\n%s\n" % (shutil.which("bash"), script))
-        os.chmod(path, 0o755)
-
-    def test_no_toolchain(self):
-        done = self.wrapper()
-        self.assertEqual((done.stdout, done.returncode), (b"", 2))
-        self.assertIn(b"rt is not on PATH", done.stderr)
-
-    def test_failed_build(self):
-        self.toolchain("echo a proof is missing; exit 1")
-        done = self.wrapper()
-        self.assertEqual((done.stdout, done.returncode), (b"", 2))
-        self.assertIn(b"a proof is missing", done.stderr)
-
-    def test_build(self):
-        self.toolchain("[ \"$*\" = 'check setlist' ] && mkdir -p target/bin && cp '%s' target/bin/setlist" % PROGRAM)
-        done = self.wrapper()
-        self.assertEqual((done.stdout.decode(), done.returncode), (WHOLE_TEXT, 0))
-        self.assertIn(b"building", done.stderr)
-        self.assertEqual(self.wrapper().stderr, b"")
+class Building(OfSetlist, programs.Building, unittest.TestCase):
+    pass
 
 
 class Panel:

@@ -1,5 +1,6 @@
-//! Nanoseconds of tick, coarse totals, listing and pack: the proved library beside plain C and plain Rust, which make the same checks, in one
-//! run on the same inputs. Each figure is the best of many rounds (DFB_ROUNDS, 60 unless set). Before a row is timed, all must agree.
+//! Nanoseconds of tick, coarse totals, listing, check of a command list and pack: the proved library beside plain C and plain Rust, which make
+//! the same checks, in one run on the same inputs. Each figure is the best of many rounds (DFB_ROUNDS, 60 unless set). Before a row is timed,
+//! all must agree.
 #[path = "../../bench/implementations.rs"]
 mod implementations;
 #[path = "../tests/differential/model.rs"]
@@ -18,6 +19,7 @@ use std::time::Instant;
 
 const TICKS: usize = 168;
 const LISTINGS: usize = 4;
+const CHECKS: usize = 4;
 const PACKS: usize = 4000;
 const CONVERSIONS: usize = 4000;
 
@@ -175,6 +177,22 @@ impl Bench {
         self.row(&format!("listing of {} bytes, {name}", log.len()), &best, false);
     }
 
+    fn check_commands(&self, list: &[u8]) {
+        let mut results = vec![];
+        for implementation in &self.implementations {
+            let mut registers = [0; dfb::REGISTERS];
+            results.push(((implementation.check_commands)(list, &mut registers), registers));
+        }
+        assert!(results.iter().all(|result| *result == results[0]), "check of a command list: the implementations differ");
+        assert_eq!(results[0].0, 0, "the command list is refused");
+        let best = self.best(|implementation| {
+            let mut registers = [0; dfb::REGISTERS];
+            let mut check = || (implementation.check_commands)(black_box(list), black_box(&mut registers));
+            nanoseconds(CHECKS, || (0..CHECKS).map(|_| check()).sum())
+        });
+        self.row(&format!("check of a command list of {} bytes", list.len()), &best, false);
+    }
+
     fn pack(&self) {
         let mut r = Random::new(2);
         let samples: Vec<i16> = (0..7).map(|_| r.next() as i16).collect();
@@ -240,6 +258,20 @@ fn survey_log(r: &mut Random) -> Vec<u8> {
     repeated(&[1, 0x30, 0x33, 0x23], &second)
 }
 
+/// Seconds of a plan: a mark, and a command to each register, with N = 4 and C = 8.
+fn command_list(r: &mut Random) -> Vec<u8> {
+    let mut list = vec![];
+    for second in 0..65536 / 33u32 {
+        list.push(3);
+        list.extend(second.to_be_bytes());
+        for id in 0x30..=0x36 {
+            let value = model::stored(id, 0x3200 | r.next() as u16 & 0xFF).unwrap();
+            list.extend([1, id, (value >> 8) as u8, value as u8]);
+        }
+    }
+    list
+}
+
 fn main() {
     let rounds = std::env::var("DFB_ROUNDS").map_or(60, |rounds| rounds.parse().expect("DFB_ROUNDS is a number"));
     let mut implementations = vec![implementations::proved()];
@@ -264,6 +296,7 @@ fn main() {
     bench.listing("a survey", &survey_log(&mut r));
     bench.listing("ticks", &[4; 65536]);
     bench.listing("112 bands", &repeated(&[1, 0x30, 0x00, 0xA0], &spec_words(&mut r, 56)));
+    bench.check_commands(&command_list(&mut r));
     bench.pack();
     println!("interval of 16,000 criteria: {:.1} ns", interval(rounds));
 

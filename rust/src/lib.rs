@@ -24,6 +24,9 @@ pub const POWERS: usize = 7168;
 /// The least length of a tick's output.
 pub const OUTPUT: usize = 1176;
 
+/// The number of registers that `check_commands` gives.
+pub const REGISTERS: usize = 7;
+
 /// The number of fine totals that `coarse_totals` converts.
 pub const FINE_TOTALS: usize = 112;
 /// The greatest total that it takes: 2^49.
@@ -45,6 +48,10 @@ pub enum Refusal {
     TruncatedBody = 10,
     InputTooLong = 11,
     OutOfRange = 12,
+    KindNotInProfile = 18,
+    SecondFalls = 19,
+    ValueAltered = 20,
+    AveragesOverPeriod = 21,
     TotalTooLarge = 24,
     TurnedAway = 25,
     NothingToSend = 26,
@@ -74,6 +81,10 @@ impl Refusal {
             Refusal::TruncatedBody => "the log ends within a record",
             Refusal::InputTooLong => "the log is over 65,536 bytes",
             Refusal::OutOfRange => "a bin setting, band, FFT bin or NCAD choice is out of range, or a target is not 36 or 64 bands",
+            Refusal::KindNotInProfile => "the record is neither a command nor a second mark",
+            Refusal::SecondFalls => "the second is smaller than that of the mark before it",
+            Refusal::ValueAltered => "the register would store another value than the one sent",
+            Refusal::AveragesOverPeriod => "a processor is enabled and N is above C",
             Refusal::TotalTooLarge => "a band total is over 2^49",
             Refusal::TurnedAway => "no slot is free and no held slot has a smaller criterion",
             Refusal::NothingToSend => "nothing is held to send, or no criterion is above 0",
@@ -97,6 +108,10 @@ impl Refusal {
             10 => Refusal::TruncatedBody,
             11 => Refusal::InputTooLong,
             12 => Refusal::OutOfRange,
+            18 => Refusal::KindNotInProfile,
+            19 => Refusal::SecondFalls,
+            20 => Refusal::ValueAltered,
+            21 => Refusal::AveragesOverPeriod,
             24 => Refusal::TotalTooLarge,
             25 => Refusal::TurnedAway,
             26 => Refusal::NothingToSend,
@@ -115,6 +130,21 @@ impl fmt::Display for Refusal {
 }
 
 impl std::error::Error for Refusal {}
+
+/// A refusal with the offset of the record at fault, or with the list's length where its end is at fault.
+#[derive(Clone, Copy, Debug, PartialEq, Eq)]
+pub struct RefusedAt {
+    pub refusal: Refusal,
+    pub offset: u64,
+}
+
+impl fmt::Display for RefusedAt {
+    fn fmt(&self, f: &mut fmt::Formatter) -> fmt::Result {
+        write!(f, "{}, at offset {}", self.refusal, self.offset)
+    }
+}
+
+impl std::error::Error for RefusedAt {}
 
 /// A report.
 #[derive(Clone, Copy, Debug, PartialEq, Eq)]
@@ -176,6 +206,7 @@ pub mod ffi {
         pub fn dfb_append(log: *mut u8, log_len: usize, used: usize, kind: u8, a: u8, b: u32) -> u64;
         pub fn dfb_read_record(log: *const u8, log_len: usize, at: usize, numbers: *mut u32, numbers_len: usize) -> u64;
         pub fn dfb_listing(log: *const u8, log_len: usize, out: *mut u8, out_len: usize) -> u64;
+        pub fn dfb_check_commands(log: *const u8, log_len: usize, registers: *mut u16, registers_len: usize) -> u64;
         pub fn dfb_band_of(setting: u8, bin: u16) -> u16;
         pub fn dfb_compress_band(value: u32) -> u8;
         pub fn dfb_expand_band(code: u8) -> u64;
@@ -318,6 +349,27 @@ pub fn listing(log: &[u8], out: &mut [u8]) -> Result<usize, Refusal> {
     // SAFETY: as in command.
     let number = unsafe { ffi::dfb_listing(log.as_ptr(), log.len(), out.as_mut_ptr(), out.len()) };
     answer(number, REFUSED_63).map(|count| count as usize)
+}
+
+/// Checks a planner's command list from reset: the final registers 0x30 to 0x36, or the refusal of the first record at fault with its offset.
+/// Refusals of a record 9, 10, then 18, of a command 1, 20, of a second mark 19, 21; at the end 21, with the list's length as offset.
+///
+/// ```
+/// let list = [1, 0x30, 0x32, 0x23, 3, 0, 0, 0, 7]; // processor 1, N = 4, C = 8; second 7
+/// assert_eq!(dfb::check_commands(&list)?, [0x3223, 0, 0, 0, 0, 0, 0]);
+/// let swapped = [1, 0x30, 0x23, 0x23, 3, 0, 0, 0, 7]; // N = 8, C = 4
+/// let refused = dfb::RefusedAt { refusal: dfb::Refusal::AveragesOverPeriod, offset: 4 };
+/// assert_eq!(dfb::check_commands(&swapped), Err(refused));
+/// # Ok::<(), dfb::RefusedAt>(())
+/// ```
+pub fn check_commands(log: &[u8]) -> Result<[u16; REGISTERS], RefusedAt> {
+    let mut registers = [0; REGISTERS];
+    // SAFETY: as in command.
+    let number = unsafe { ffi::dfb_check_commands(log.as_ptr(), log.len(), registers.as_mut_ptr(), registers.len()) };
+    if number < REFUSED_63 {
+        return Ok(registers);
+    }
+    Err(RefusedAt { refusal: Refusal::of(number & 0xFF), offset: (number - REFUSED_63) >> 8 })
 }
 
 /// The band of an FFT bin. Refusal 12.

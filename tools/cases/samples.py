@@ -1,15 +1,20 @@
 #!/usr/bin/env python3
-"""Writes samples/*.log and, from listing_model.py, their listings samples/*.txt.
+"""Writes samples/*.log and, from listing_model.py, their listings samples/*.txt; and samples/*.list, planners' command lists, and, from
+checklist_model.py, the lines samples/*.check that checklist prints for them.
 
 day-start: the first minute of a survey. Commands set processors 1 and 4 (36 bands, N = 4, C = 8), second marks and ticks follow, each second
 has survey sets, and each report its SPEC set. The spectra are made by a small board here: a falling power law with a line at 1,600 Hz.
 bursts: the registers change to 112 bands for one processor, and Burst 1 sets stand between the survey's.
 damaged: day-start with one byte lost in the middle of a waveform set.
 rounded-down: a log as boards made it before version 0.5.0, with each of the 124 codes of then.
+commands: an hour's plan: two processors, a minute of 112 bands, and all off at the end.
+commands-altered: the plan with N and C of 0x30 sent to 0x33 as well.
+commands-period: the plan with N and C of the minute taken for each other.
 """
 import os
 import struct
 
+from checklist_model import line
 from listing_model import BANDS, LEGAL, LEGAL_BEFORE, listing, stored, value
 
 HERE = os.path.join(os.path.dirname(os.path.abspath(__file__)), "..", "..", "samples")
@@ -127,6 +132,24 @@ def rounded_down():
     return board
 
 
+def commands(fourth=0x0032, minute=0x32A1):
+    """What 0x33 is sent at the start, and 0x30 for the minute of 112 bands."""
+    board = Board()
+    board.second(1_204_416_000)
+    board.command(0x30, 0x3223)
+    board.command(0x33, fourth)
+    board.second(1_204_417_800)
+    board.command(0x33, 0x0012)
+    board.command(0x30, minute)
+    board.second(1_204_417_860)
+    board.command(0x30, 0x3223)
+    board.command(0x33, 0x0032)
+    board.second(1_204_419_600)
+    board.command(0x30, 0x3203)
+    board.command(0x33, 0x0012)
+    return board
+
+
 def main():
     day = bytes(day_start().log)
     cut = day.index(b"\x02\x44") + 6
@@ -141,6 +164,16 @@ def main():
             out.write(log)
         with open(os.path.join(HERE, name + ".txt"), "w", encoding="utf8") as out:
             out.write(listing(log))
+    lists = {
+        "commands": bytes(commands().log),
+        "commands-altered": bytes(commands(fourth=0x3232).log),
+        "commands-period": bytes(commands(minute=0x23A1).log),
+    }
+    for name, log in lists.items():
+        with open(os.path.join(HERE, name + ".list"), "wb") as out:
+            out.write(log)
+        with open(os.path.join(HERE, name + ".check"), "w", encoding="utf8") as out:
+            out.write(line(log))
 
 
 if __name__ == "__main__":

@@ -1,6 +1,6 @@
 -- The numbers that the C interface answers (include/dfb.h): a value, or a base plus a refusal's number, which no value of that function
 -- equals.
-use Prim.Native.Nat.{ℕ, _+_, _^_}
+use Prim.Native.Nat.{ℕ, _+_, _*_, _^_}
 use mathlib.Core.Path.{_≡_}
 use mathlib.Core.Bool.{cond}
 use mathlib.Core.List.{List}
@@ -23,6 +23,10 @@ above63 = 2 ^ 63
 abbrev pub outcomeNumber : ℕ → Outcome ℕ → ℕ
 outcomeNumber base (given v) = v
 outcomeNumber base (refused n) = base + n
+
+-- a refusal that has an offset: its number in the lower eight bits, the offset above them
+abbrev pub withOffset : ℕ → ℕ → ℕ
+withOffset number offset = offset * 256 + number
 
 -- what a call leaves that writes one list: its answer, and the list afterwards
 pub record FilledNumber (A : Type 0) : Type 0 where

@@ -4,5 +4,6 @@ pub mod Digits
 pub mod Spectra
 pub mod Lines
 pub mod Whole
+pub mod Verdicts
 pub mod Bound
 pub mod Cases

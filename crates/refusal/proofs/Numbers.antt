@@ -8,12 +8,13 @@ use lib.Dec.{eqb}
 use Rattle.refusal.specs.Number.{numberOf}
 use Rattle.refusal.specs.Claims.{OneNumber, ThirteenUnused}
 use Rattle.refusal.specs.declared.Refusal.{Refusal}
-use Rattle.refusal.specs.declared.Refusal.the-variants.{UnknownCommand, WrongLength, UnsoundState, UnknownApid, IncompleteSet, NoProcessorEnabled, IllegalBandCode, SumCodeOverflow, UnknownRecordKind, TruncatedBody, InputTooLong, OutOfRange, TotalTooLarge, TurnedAway, NothingToSend, AlreadySending, NoneSending, ZeroLimit}
+use Rattle.refusal.specs.declared.Refusal.the-variants.{UnknownCommand, WrongLength, UnsoundState, UnknownApid, IncompleteSet, NoProcessorEnabled, IllegalBandCode, SumCodeOverflow, UnknownRecordKind, TruncatedBody, InputTooLong, OutOfRange, KindNotInProfile, SecondFalls, ValueAltered, AveragesOverPeriod, TotalTooLarge, TurnedAway, NothingToSend, AlreadySending, NoneSending, ZeroLimit}
 
 all : List Refusal
 all =
     WrongLength ∷ UnsoundState ∷ UnknownApid ∷ IncompleteSet ∷ NoProcessorEnabled ∷ IllegalBandCode ∷ SumCodeOverflow ∷ UnknownRecordKind
-    ∷ TruncatedBody ∷ InputTooLong ∷ OutOfRange ∷ TotalTooLarge ∷ TurnedAway ∷ NothingToSend ∷ AlreadySending ∷ NoneSending ∷ ZeroLimit ∷ []
+    ∷ TruncatedBody ∷ InputTooLong ∷ OutOfRange ∷ KindNotInProfile ∷ SecondFalls ∷ ValueAltered ∷ AveragesOverPeriod ∷ TotalTooLarge ∷ TurnedAway
+    ∷ NothingToSend ∷ AlreadySending ∷ NoneSending ∷ ZeroLimit ∷ []
 
 -- the refusal of the list that has the number, and the first refusal where none has
 withNumber : ℕ → List Refusal → Refusal
@@ -34,6 +35,10 @@ found UnknownRecordKind = refl
 found TruncatedBody = refl
 found InputTooLong = refl
 found OutOfRange = refl
+found KindNotInProfile = refl
+found SecondFalls = refl
+found ValueAltered = refl
+found AveragesOverPeriod = refl
 found TotalTooLarge = refl
 found TurnedAway = refl
 found NothingToSend = refl

@@ -1,30 +1,64 @@
 -- What 01 says of the registers as a whole. A register is sound exactly if a write can store it. Reset gives sound registers, and a
 -- write keeps them sound. Writing back what was read stores the same value again and changes nothing. A write changes one register only,
 -- and a read of that register gives the value stored. Assumes nothing.
-use Prim.Native.Nat.{ℕ, _-_, _<_}
-use mathlib.Core.Path.{_≡_, refl, sym, ap, subst}
-use mathlib.Core.Bool.{true}
+use Prim.Native.Nat.{ℕ, _-_, _≤_, _<_}
+use mathlib.Core.Path.{_≡_, refl, sym, ap, subst, _∙_}
+use mathlib.Core.Bool.{true, _&&_, true≢false}
 use native.Mathlib.Omega.{arith}
-use borrow.Author.Tests.{eq-eqb, eqb-true, eqb-false, ltb-true, ltb-false}
-use lib.Dec.{eqb, ltb}
+use borrow.Author.Tests.{eq-eqb, eqb-true, eqb-false, lt-ltb, ltb-true, ltb-false, le-leb, leb-true, leb-false}
+use lib.Dec.{eqb, leb, ltb}
 use lib.ListN.{length}
 use lib.Seq.{set-getD, getD-set-same, getD-set-other, set-out}
 use Rattle.lists.specs.Sums.{allTo}
-use Rattle.lists.proofs.Choices.{by-cases}
+use Rattle.lists.proofs.Choices.{by-cases, both}
 use Rattle.lists.proofs.Sums.{allTo-of, allTo-at}
 use Rattle.refusal.specs.Outcome.{given}
 use Rattle.refusal.proofs.Outcomes.{refused-given}
-use Rattle.registers.specs.Store.{highStored, lowStored, storedAt, stored}
+use Rattle.registers.specs.Store.{sourceOf, binsOf, navgOf, ncadOf, highStored, lowStored, storedAt, stored, canStore}
 use Rattle.registers.specs.Access.{answerOutcome, register, storable, registersSound, isId, storedTo, registerRead, writeOutcome}
-use Rattle.registers.specs.Claims.{CanStore, ResetSound, WriteSound, WriteBack, WriteOne, ReadWritten}
+use Rattle.registers.specs.Claims.{CanStore, FirstExactly, OthersExactly, ResetSound, WriteSound, WriteBack, WriteOne, ReadWritten}
 use Rattle.registers.specs.declared.Registers.{Registers}
 use Rattle.registers.specs.declared.Answer.{Answer}
 use Rattle.registers.proofs.Laws.{id-range}
-use Rattle.registers.proofs.Stored.{stored-again, stored-lt}
+use Rattle.registers.proofs.Stored.{stored-again, stored-lt, source-over, first-can, other-can}
 
 -- a value is one that a write of 16 bits to register n can store exactly if a write of it stores it
 pub can-store : CanStore
 can-store n w = (λ p. rw (← p .2) (stored-again n (p .0)), λ e. (w, rw e at (stored-lt n w), e))
+
+-- a value that is stored exactly has a source within its limit
+source-within : (n v : ℕ) → canStore n v ≡ true → sourceOf v ≤ 0x16
+source-within n v t =
+    by-cases (leb (sourceOf v) 0x16) (λ l. leb-true (sourceOf v) 0x16 l)
+    (λ l. absurd (true≢false (sym t ∙ source-over n v (leb-false (sourceOf v) 0x16 l))))
+
+pub first-exactly : FirstExactly
+first-exactly v = (only, if-so)
+  where
+    only : storedAt 0 v ≡ v → (sourceOf v ≤ 0x16) × (binsOf v ≤ 2) × (navgOf v ≤ 0xA) × (ncadOf v ≤ 0xA)
+    only e =
+        let t : canStore 0 v ≡ true = eq-eqb (storedAt 0 v) v e in
+        let h = source-within 0 v t in
+        let a = both (leb (ncadOf v) 0xA) (leb (navgOf v) 0xA && leb (binsOf v) 2) (sym (first-can v h) ∙ t) in
+        let b = both (leb (navgOf v) 0xA) (leb (binsOf v) 2) (a .1) in
+        (h, leb-true (binsOf v) 2 (b .1), leb-true (navgOf v) 0xA (b .0), leb-true (ncadOf v) 0xA (a .0))
+
+    if-so : (sourceOf v ≤ 0x16) × (binsOf v ≤ 2) × (navgOf v ≤ 0xA) × (ncadOf v ≤ 0xA) → storedAt 0 v ≡ v
+    if-so h =
+        let t : canStore 0 v ≡ true = first-can v (h .0) ∙ simp (le-leb (ncadOf v) 0xA (h .3), le-leb (navgOf v) 0xA (h .2), le-leb (binsOf v) 2 (h .1)) in
+        eqb-true (storedAt 0 v) v t
+
+pub others-exactly : OthersExactly
+others-exactly n v other = (only, if-so)
+  where
+    only : storedAt n v ≡ v → (sourceOf v ≤ 0x16) × (v < 64)
+    only e =
+        let t : canStore n v ≡ true = eq-eqb (storedAt n v) v e in
+        let h = source-within n v t in
+        (h, ltb-true v 64 (sym (other-can n v other h) ∙ t))
+
+    if-so : (sourceOf v ≤ 0x16) × (v < 64) → storedAt n v ≡ v
+    if-so h = eqb-true (storedAt n v) v (other-can n v other (h .0) ∙ lt-ltb v 64 (h .1))
 
 -- `sound` says so of each register
 pub sound-at : (r : Registers) → registersSound r ≡ true → (n : ℕ) → n < 7 → storedAt n (register r n) ≡ register r n

@@ -2,6 +2,7 @@
 //! element of every buffer, margins too. DFB_TIMES=10 makes ten times as many random cases.
 mod board;
 mod bursts;
+mod check;
 mod coarse;
 mod codes;
 mod logs;

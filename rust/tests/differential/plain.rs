@@ -1,8 +1,9 @@
-//! The plain C of the benchmark and its plain Rust tick and coarse totals against the model, so that it compares programs that do the same.
+//! The plain C of the benchmark and its plain Rust tick, coarse totals and check of command lists against the model, so that it compares
+//! programs that do the same.
 use crate::implementations::{plain_c, plain_rust};
 use crate::model::{self, Board, POWERS, STATE, TOTALS};
 use crate::random::{seeds, Buffer, Random};
-use crate::{board, coarse, logs};
+use crate::{board, check, coarse, logs};
 
 /// A tick's answer as a number of include/dfb.h.
 fn tick_number(answer: &model::Answer<model::Tick>) -> u32 {
@@ -63,6 +64,20 @@ fn coarse_totals() {
             let number = expected.map_or_else(|refusal| 0x10000 + refusal as u32, |count| count as u32);
             assert_eq!((implementation.coarse_totals)(setting, &fine, out.list()), number);
             assert_eq!(out, after);
+        }
+    }
+}
+
+#[test]
+fn checks() {
+    for implementation in plain_c().into_iter().chain([plain_rust()]) {
+        for seed in seeds(3000) {
+            let mut r = Random::new(seed);
+            let mut list = check::whole_list(&mut r, 12);
+            for _ in 0..3 {
+                check::compare_call(&mut r, &implementation, &list);
+                check::damage(&mut r, &mut list);
+            }
         }
     }
 }

@@ -1,7 +1,7 @@
 //! The refusals: numbers and texts, copied by hand.
-use dfb::Refusal;
+use dfb::{Refusal, RefusedAt};
 
-const REFUSALS: [(Refusal, u8, &str); 18] = [
+const REFUSALS: [(Refusal, u8, &str); 22] = [
     (Refusal::UnknownCommand, 1, "the command ID is outside 0x30 to 0x36"),
     (Refusal::WrongLength, 2, "a list has a wrong length, an output is too small, or a place or number does not fit"),
     (Refusal::UnsoundState, 3, "the state is not one that the board or the slots can have left"),
@@ -14,6 +14,10 @@ const REFUSALS: [(Refusal, u8, &str); 18] = [
     (Refusal::TruncatedBody, 10, "the log ends within a record"),
     (Refusal::InputTooLong, 11, "the log is over 65,536 bytes"),
     (Refusal::OutOfRange, 12, "a bin setting, band, FFT bin or NCAD choice is out of range, or a target is not 36 or 64 bands"),
+    (Refusal::KindNotInProfile, 18, "the record is neither a command nor a second mark"),
+    (Refusal::SecondFalls, 19, "the second is smaller than that of the mark before it"),
+    (Refusal::ValueAltered, 20, "the register would store another value than the one sent"),
+    (Refusal::AveragesOverPeriod, 21, "a processor is enabled and N is above C"),
     (Refusal::TotalTooLarge, 24, "a band total is over 2^49"),
     (Refusal::TurnedAway, 25, "no slot is free and no held slot has a smaller criterion"),
     (Refusal::NothingToSend, 26, "nothing is held to send, or no criterion is above 0"),
@@ -27,5 +31,6 @@ fn numbers_and_texts() {
     for (refusal, number, meaning) in REFUSALS {
         assert_eq!((refusal.number(), refusal.meaning()), (number, meaning));
         assert_eq!(refusal.to_string(), format!("refusal {number}: {meaning}"));
+        assert_eq!(RefusedAt { refusal, offset: 9 }.to_string(), format!("refusal {number}: {meaning}, at offset 9"));
     }
 }

@@ -1,6 +1,6 @@
 -- `setlist::list` meets its contract: what was read and what was written lie within their buffers. Assumes nothing.
 use Rattle.listing.proofs.Whole.{written-within}
-use Rattle.setlist.specs.Input.{Within}
+use Rattle.input.specs.Input.{Within}
 use lib.Seq.{length-take-le}
 use mathlib.Core.Path.{sym, subst}
 use borrow.Author.Needs.{needs}

@@ -1,0 +1,7 @@
+pub mod Steps
+pub mod Splits
+pub mod Period
+pub mod Rules
+pub mod Faults
+pub mod Theorems
+pub mod Cases
