@@ -30,6 +30,14 @@ def shell(command):
     return subprocess.run(["bash", "-c", command], capture_output=True, timeout=60, cwd=TOP)
 
 
+class Outputs:
+    def compare(self, data, text):
+        """The program prints the text for the input, and nothing else."""
+        done = run([self.program], data)
+        self.assertEqual(done.stdout.decode("ascii"), text)
+        self.assertEqual((done.stderr, done.returncode), (b"", 0))
+
+
 class Reads:
     def deliver(self, data, lengths, pause):
         """What the program prints for an input that is written to a pipe in parts, with pauses."""

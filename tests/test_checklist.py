@@ -35,12 +35,7 @@ class OfChecklist:
     sample, sample_text = "samples/commands.list", sample("commands", "check")
 
 
-class Lines(OfChecklist, unittest.TestCase):
-    def compare(self, log, text):
-        done = run([self.program], log)
-        self.assertEqual(done.stdout.decode("ascii"), text)
-        self.assertEqual((done.stderr, done.returncode), (b"", 0))
-
+class Lines(OfChecklist, programs.Outputs, unittest.TestCase):
     def test_ticket(self):
         """The sentences of ticket 6, with lines written by hand."""
         for log, text in (

@@ -162,8 +162,8 @@ class Libraries(Tools):
         for pattern, path, name in (
             (r"glibc (\d+)\.(\d+) or later", ("include", "dfb.h"), "libdfb.so"),
             (r"needs glibc (\d+)\.(\d+) or later", ("README.md",), "libdfb.so"),
-            (r"`setlist`(?: and `checklist`)? glibc (\d+)\.(\d+)", ("README.md",), "setlist"),
-            (r"`setlist`(?: and `checklist`)? glibc (\d+)\.(\d+)", ("README.md",), "checklist"),
+            (r"`setlist` and `checklist` glibc (\d+)\.(\d+)", ("README.md",), "setlist"),
+            (r"`setlist` and `checklist` glibc (\d+)\.(\d+)", ("README.md",), "checklist"),
         ):
             versions = re.findall(r"GLIBC_(\d+)\.(\d+)", output("objdump", "-T", os.path.join(DIST, name)))
             named = re.search(pattern, read(*path)).groups()

@@ -39,12 +39,7 @@ class OfSetlist:
     sample, sample_text = "samples/day-start.log", read("samples", "day-start.txt")
 
 
-class Listings(OfSetlist, unittest.TestCase):
-    def compare(self, log, text):
-        done = run([self.program], log)
-        self.assertEqual(done.stdout.decode("ascii"), text)
-        self.assertEqual((done.stderr, done.returncode), (b"", 0))
-
+class Listings(OfSetlist, programs.Outputs, unittest.TestCase):
     def test_whole_case(self):
         self.compare(WHOLE_CASE, WHOLE_TEXT)
 

@@ -1,5 +1,4 @@
 pub mod Steps
-pub mod Splits
 pub mod Period
 pub mod Rules
 pub mod Faults

@@ -1,13 +1,13 @@
 -- The test of the period says of the registers that a list leaves that no processor is enabled or N ≤ C. Assumes nothing.
 use mathlib.Core.Bool.{Bool, true, false, cond, _||_, or-true, true≢false}
 use mathlib.Core.List.{List, [], _∷_}
-use mathlib.Core.Logic.{_⊎_, inl, inr, ⊎-elim}
+use mathlib.Core.Logic.{inl, inr, ⊎-elim}
 use mathlib.Core.Path.{_≡_, refl, sym, ap, _∙_}
 use Prim.Native.Nat.{ℕ, _≤_, _<_}
 use native.Mathlib.Omega.{arith}
 use borrow.Author.Tests.{eq-eqb, eqb-true, eqb-false, ne-eqb, le-leb, leb-true}
 use lib.Dec.{eqb, leb}
-use Rattle.lists.proofs.Choices.{by-cases}
+use Rattle.lists.proofs.Choices.{by-cases, either}
 use Rattle.lists.proofs.Sums.{sumTo-zero}
 use Rattle.lists.proofs.Changes.{sumTo-at}
 use Rattle.registers.specs.declared.Registers.{Registers}
@@ -20,10 +20,6 @@ use Rattle.settings.proofs.Theorems.{sound-settings}
 use Rattle.log.specs.declared.Record.{Record}
 use Rattle.checker.specs.Check.{withinPeriod}
 use Rattle.checker.specs.Claims.{registersFrom, registersAfter, PeriodKept}
-
-either : (a b : Bool) → a || b ≡ true → (a ≡ true) ⊎ (b ≡ true)
-either true b e = inl refl
-either false b e = inr e
 
 or-left : (a b : Bool) → a ≡ true → a || b ≡ true
 or-left a b e = rw e refl

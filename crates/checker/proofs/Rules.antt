@@ -7,6 +7,7 @@ use native.Mathlib.Omega.{arith}
 use borrow.Author.Tests.{eqb-true, eq-eqb, ltb-false, le-ltb}
 use lib.Dec.{ltb, eqb}
 use Rattle.lists.proofs.Choices.{by-cases}
+use Rattle.lists.proofs.Cuts.{Cut, at-last, within, cut-last, no-cut}
 use Rattle.refusal.specs.Outcome.{given}
 use Rattle.refusal.proofs.Outcomes.{refused-given}
 use Rattle.registers.specs.declared.Registers.{Registers}
@@ -19,7 +20,6 @@ use Rattle.log.proofs.Moves.{command-known}
 use Rattle.checker.specs.Check.{Standing, withinPeriod, checkCommand, checkMark, checkRecord, afterRecord, atStart}
 use Rattle.checker.specs.Claims.{inProfile, StoresSent, registersFrom, registersAfter, PeriodKept, KeepsRules, NotFalling}
 use Rattle.checker.proofs.Period.{within-kept, kept-within}
-use Rattle.checker.proofs.Splits.{Cut, at-last, within, cut-last, no-cut}
 
 -- ---- a record that is kept
 

@@ -1,8 +1,8 @@
 -- Laws of choices by a test, and of what holds below a number. Assumes nothing.
 use Prim.Native.Nat.{ℕ, suc, _<_}
 use mathlib.Core.Path.{_≡_, refl, sym, subst}
-use mathlib.Core.Logic.{⊎-elim}
-use mathlib.Core.Bool.{Bool, true, false, cond, _&&_, true≢false, false≢true}
+use mathlib.Core.Logic.{_⊎_, inl, inr, ⊎-elim}
+use mathlib.Core.Bool.{Bool, true, false, cond, _&&_, _||_, true≢false, false≢true}
 use native.Mathlib.Nat.{le-of-suc-le-suc, not-suc-le-zero, eq-or-lt-of-le}
 
 -- A choice by the two cases of its test: under two functions, under a property; and a choice whose test is known.
@@ -43,6 +43,11 @@ cond-same false a = refl
 pub both : (a b : Bool) → a && b ≡ true → (a ≡ true) × (b ≡ true)
 both true b e = (refl, e)
 both false b e = absurd (false≢true e)
+
+-- One of two tests of which one holds.
+pub either : (a b : Bool) → a || b ≡ true → (a ≡ true) ⊎ (b ≡ true)
+either true b e = inl refl
+either false b e = inr e
 
 -- Anything holds below 0, and what holds below n and at n holds below n + 1.
 pub below-zero {ℓ} : (P : ℕ → Type ℓ) (i : ℕ) → i < 0 → P i

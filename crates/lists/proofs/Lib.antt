@@ -6,3 +6,4 @@ pub mod Runs
 pub mod Lowest
 pub mod Best
 pub mod Changes
+pub mod Cuts
