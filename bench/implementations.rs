@@ -4,24 +4,40 @@ use crate::{model, plain_rust};
 /// State, totals, powers and output.
 type Tick = fn(&mut [u16], &mut [u64], &[u32], &mut [u8]) -> u32;
 
+/// A call of the counting writer.
+#[derive(Clone, Copy, Debug)]
+pub enum Call<'a> {
+    Command(u8, u16),
+    Mark(u32),
+    Tick,
+    Set(u8, &'a [i16]),
+    Report(&'a [u8]),
+}
+
+/// Log, bytes used, counts and registers, and the call.
+type Counted = fn(&mut [u8], usize, &mut [u64], &mut [u16], Call) -> u64;
+
 pub struct Implementation {
     pub name: &'static str,
     pub tick: Tick,
     pub coarse_totals: fn(u8, &[u64], &mut [u64]) -> u32,
     pub pack: fn(u8, &[i16], &mut [u8]) -> u32,
+    pub append: fn(&mut [u8], usize, u8, u8, u32) -> u64,
     pub listing: fn(&[u8], &mut [u8]) -> u64,
     pub check_commands: fn(&[u8], &mut [u16]) -> u64,
+    pub counted: Counted,
+    pub count_sets: fn(&[u8], &mut [u64], &mut [u16]) -> u64,
 }
 
-/// An implementation over C functions.
+/// An implementation over the C functions of a module.
 macro_rules! over_c {
-    ($name:literal, $tick:path, $coarse:path, $pack:path, $listing:path, $check:path) => {
+    ($name:literal, $module:ident) => {
         // SAFETY: each pointer is valid for its length, and no two slices overlap.
         Implementation {
             name: $name,
             tick: |state, totals, powers, out| unsafe {
                 let (state_len, totals_len, out_len) = (state.len(), totals.len(), out.len());
-                $tick(
+                $module::tick(
                     state.as_mut_ptr(),
                     state_len,
                     totals.as_mut_ptr(),
@@ -32,56 +48,170 @@ macro_rules! over_c {
                     out_len,
                 )
             },
-            coarse_totals: |setting, fine, out| unsafe { $coarse(setting, fine.as_ptr(), fine.len(), out.as_mut_ptr(), out.len()) },
-            pack: |apid, samples, out| unsafe { $pack(apid, samples.as_ptr(), samples.len(), out.as_mut_ptr(), out.len()) },
-            listing: |log, out| unsafe { $listing(log.as_ptr(), log.len(), out.as_mut_ptr(), out.len()) },
-            check_commands: |log, registers| unsafe { $check(log.as_ptr(), log.len(), registers.as_mut_ptr(), registers.len()) },
+            coarse_totals: |setting, fine, out| unsafe {
+                $module::coarse_totals(setting, fine.as_ptr(), fine.len(), out.as_mut_ptr(), out.len())
+            },
+            pack: |apid, samples, out| unsafe { $module::pack(apid, samples.as_ptr(), samples.len(), out.as_mut_ptr(), out.len()) },
+            append: |log, used, kind, a, b| unsafe { $module::append(log.as_mut_ptr(), log.len(), used, kind, a, b) },
+            listing: |log, out| unsafe { $module::listing(log.as_ptr(), log.len(), out.as_mut_ptr(), out.len()) },
+            check_commands: |log, registers| unsafe {
+                $module::check_commands(log.as_ptr(), log.len(), registers.as_mut_ptr(), registers.len())
+            },
+            counted: |log, used, counts, registers, call| unsafe {
+                let (log, log_len, counts, counts_len) = (log.as_mut_ptr(), log.len(), counts.as_mut_ptr(), counts.len());
+                let (registers, registers_len) = (registers.as_mut_ptr(), registers.len());
+                match call {
+                    Call::Command(id, information) => {
+                        $module::counted_command(log, log_len, used, counts, counts_len, registers, registers_len, id, information)
+                    }
+                    Call::Mark(seconds) => $module::counted_mark(log, log_len, used, counts, counts_len, registers, registers_len, seconds),
+                    Call::Tick => $module::counted_tick(log, log_len, used, counts, counts_len, registers, registers_len),
+                    Call::Set(apid, samples) => {
+                        let (samples, samples_len) = (samples.as_ptr(), samples.len());
+                        $module::counted_set(log, log_len, used, counts, counts_len, registers, registers_len, apid, samples, samples_len)
+                    }
+                    Call::Report(words) => {
+                        let (words, words_len) = (words.as_ptr(), words.len());
+                        $module::counted_report(log, log_len, used, counts, counts_len, registers, registers_len, words, words_len)
+                    }
+                }
+            },
+            count_sets: |log, counts, registers| unsafe {
+                let (counts, counts_len, registers, registers_len) =
+                    (counts.as_mut_ptr(), counts.len(), registers.as_mut_ptr(), registers.len());
+                $module::count_sets(log.as_ptr(), log.len(), counts, counts_len, registers, registers_len)
+            },
         }
     };
 }
 
-/// The functions that one compiler made of plain.c.
+/// The functions that one compiler made of plain.c, under the names with its prefix.
 #[cfg(any(gcc, clang))]
 macro_rules! declare {
-    ($tick:ident, $coarse:ident, $pack:ident, $listing:ident, $check:ident, $sum:ident) => {
-        extern "C" {
-            fn $tick(
-                state: *mut u16,
-                state_len: usize,
-                totals: *mut u64,
-                totals_len: usize,
-                powers: *const u32,
-                powers_len: usize,
-                out: *mut u8,
-                out_len: usize,
-            ) -> u32;
-            fn $coarse(setting: u8, fine: *const u64, fine_len: usize, out: *mut u64, out_len: usize) -> u32;
-            fn $pack(apid: u8, samples: *const i16, samples_len: usize, out: *mut u8, out_len: usize) -> u32;
-            fn $listing(log: *const u8, log_len: usize, out: *mut u8, out_len: usize) -> u64;
-            fn $check(log: *const u8, log_len: usize, registers: *mut u16, registers_len: usize) -> u64;
-            fn $sum(powers: *const u32, powers_len: usize) -> u64;
+    ($module:ident, $prefix:literal) => {
+        mod $module {
+            extern "C" {
+                #[link_name = concat!($prefix, "tick")]
+                pub fn tick(
+                    state: *mut u16,
+                    state_len: usize,
+                    totals: *mut u64,
+                    totals_len: usize,
+                    powers: *const u32,
+                    powers_len: usize,
+                    out: *mut u8,
+                    out_len: usize,
+                ) -> u32;
+                #[link_name = concat!($prefix, "coarse_totals")]
+                pub fn coarse_totals(setting: u8, fine: *const u64, fine_len: usize, out: *mut u64, out_len: usize) -> u32;
+                #[link_name = concat!($prefix, "pack")]
+                pub fn pack(apid: u8, samples: *const i16, samples_len: usize, out: *mut u8, out_len: usize) -> u32;
+                #[link_name = concat!($prefix, "append")]
+                pub fn append(log: *mut u8, log_len: usize, used: usize, kind: u8, a: u8, b: u32) -> u64;
+                #[link_name = concat!($prefix, "listing")]
+                pub fn listing(log: *const u8, log_len: usize, out: *mut u8, out_len: usize) -> u64;
+                #[link_name = concat!($prefix, "check_commands")]
+                pub fn check_commands(log: *const u8, log_len: usize, registers: *mut u16, registers_len: usize) -> u64;
+                #[link_name = concat!($prefix, "counted_command")]
+                pub fn counted_command(
+                    log: *mut u8,
+                    log_len: usize,
+                    used: usize,
+                    counts: *mut u64,
+                    counts_len: usize,
+                    registers: *mut u16,
+                    registers_len: usize,
+                    id: u8,
+                    information: u16,
+                ) -> u64;
+                #[link_name = concat!($prefix, "counted_mark")]
+                pub fn counted_mark(
+                    log: *mut u8,
+                    log_len: usize,
+                    used: usize,
+                    counts: *mut u64,
+                    counts_len: usize,
+                    registers: *mut u16,
+                    registers_len: usize,
+                    seconds: u32,
+                ) -> u64;
+                #[link_name = concat!($prefix, "counted_tick")]
+                pub fn counted_tick(
+                    log: *mut u8,
+                    log_len: usize,
+                    used: usize,
+                    counts: *mut u64,
+                    counts_len: usize,
+                    registers: *mut u16,
+                    registers_len: usize,
+                ) -> u64;
+                #[link_name = concat!($prefix, "counted_set")]
+                pub fn counted_set(
+                    log: *mut u8,
+                    log_len: usize,
+                    used: usize,
+                    counts: *mut u64,
+                    counts_len: usize,
+                    registers: *mut u16,
+                    registers_len: usize,
+                    apid: u8,
+                    samples: *const i16,
+                    samples_len: usize,
+                ) -> u64;
+                #[link_name = concat!($prefix, "counted_report")]
+                pub fn counted_report(
+                    log: *mut u8,
+                    log_len: usize,
+                    used: usize,
+                    counts: *mut u64,
+                    counts_len: usize,
+                    registers: *mut u16,
+                    registers_len: usize,
+                    words: *const u8,
+                    words_len: usize,
+                ) -> u64;
+                #[link_name = concat!($prefix, "count_sets")]
+                pub fn count_sets(
+                    log: *const u8,
+                    log_len: usize,
+                    counts: *mut u64,
+                    counts_len: usize,
+                    registers: *mut u16,
+                    registers_len: usize,
+                ) -> u64;
+                #[link_name = concat!($prefix, "sum")]
+                pub fn sum(powers: *const u32, powers_len: usize) -> u64;
+            }
         }
     };
 }
 
 #[cfg(gcc)]
-declare!(gcc_tick, gcc_coarse_totals, gcc_pack, gcc_listing, gcc_check_commands, gcc_sum);
+declare!(gcc, "gcc_");
 #[cfg(clang)]
-declare!(clang_tick, clang_coarse_totals, clang_pack, clang_listing, clang_check_commands, clang_sum);
+declare!(clang, "clang_");
+
+/// The library's functions under the same names.
+mod library {
+    pub use dfb::ffi::{
+        dfb_append as append, dfb_check_commands as check_commands, dfb_coarse_totals as coarse_totals, dfb_count_sets as count_sets,
+        dfb_counted_command as counted_command, dfb_counted_mark as counted_mark, dfb_counted_report as counted_report,
+        dfb_counted_set as counted_set, dfb_counted_tick as counted_tick, dfb_listing as listing, dfb_pack as pack, dfb_tick as tick,
+    };
+}
 
 /// The proved library.
 pub fn proved() -> Implementation {
-    use dfb::ffi;
-    over_c!("proved", ffi::dfb_tick, ffi::dfb_coarse_totals, ffi::dfb_pack, ffi::dfb_listing, ffi::dfb_check_commands)
+    over_c!("proved", library)
 }
 
 /// Plain C by each compiler that is there.
 pub fn plain_c() -> Vec<Implementation> {
     vec![
         #[cfg(gcc)]
-        over_c!("gcc -O3", gcc_tick, gcc_coarse_totals, gcc_pack, gcc_listing, gcc_check_commands),
+        over_c!("gcc -O3", gcc),
         #[cfg(clang)]
-        over_c!("clang -O3", clang_tick, clang_coarse_totals, clang_pack, clang_listing, clang_check_commands),
+        over_c!("clang -O3", clang),
     ]
 }
 
@@ -95,11 +225,14 @@ pub fn plain_rust() -> Implementation {
             Ok(count) => count as u32,
             Err(refusal) => 0x10000 + refusal as u32,
         },
+        append: plain_rust::append,
         listing: |log, out| match model::listing(log, out) {
             Ok(count) => count as u64,
             Err(refusal) => (1 << 63) + refusal as u64,
         },
         check_commands: plain_rust::check_commands,
+        counted: plain_rust::counted,
+        count_sets: plain_rust::count_sets,
     }
 }
 
@@ -108,9 +241,9 @@ pub fn sums() -> Vec<fn(&[u32]) -> u64> {
     vec![
         // SAFETY: each pointer is valid for its length.
         #[cfg(gcc)]
-        |powers| unsafe { gcc_sum(powers.as_ptr(), powers.len()) },
+        |powers| unsafe { gcc::sum(powers.as_ptr(), powers.len()) },
         #[cfg(clang)]
-        |powers| unsafe { clang_sum(powers.as_ptr(), powers.len()) },
+        |powers| unsafe { clang::sum(powers.as_ptr(), powers.len()) },
         plain_rust::sum,
     ]
 }

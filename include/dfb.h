@@ -2,8 +2,8 @@
  *
  * Every function with external linkage is proved: for every input, refused ones too, its answer and the later contents of every list are
  * those of the rules (AUDIT.md). The inline functions take answers apart and give lengths; they are tested against the proved ones.
- * HANDBOOK.md has the rules for people: registers and their fields, reports, bands, words, the log, command lists, bursts, and a remedy for
- * each refusal.
+ * HANDBOOK.md has the rules for people: registers and their fields, reports, bands, words, the log, command lists, counted logs, bursts, and
+ * a remedy for each refusal.
  *
  * A call ends in an answer or in a refusal, which has a number (enum dfb_refusal_number). A refused call changes nothing: the state and every
  * list are as they were. Nothing has to be checked before a call; lists of any length may be passed, and a wrong length is refused by 2.
@@ -29,9 +29,9 @@
 
 /* The minor number rises with every function that is added or changed, the patch number with a ticket that adds and changes none; the
  * soname of libdfb.so is libdfb.so.MAJOR. */
-#define DFB_VERSION "0.8.0"
+#define DFB_VERSION "0.9.0"
 #define DFB_VERSION_MAJOR 0
-#define DFB_VERSION_MINOR 8
+#define DFB_VERSION_MINOR 9
 #define DFB_VERSION_PATCH 0
 
 #ifdef __cplusplus
@@ -44,9 +44,9 @@ extern "C" {
 enum dfb_refusal_number {
     DFB_REFUSAL_UNKNOWN_COMMAND = 1,       /* the command ID is outside 0x30 to 0x36 */
     DFB_REFUSAL_WRONG_LENGTH = 2,          /* a list has a wrong length, an output is too small, or a place or number does not fit */
-    DFB_REFUSAL_UNSOUND_STATE = 3,         /* the state is not one that the board or the slots can have left */
+    DFB_REFUSAL_UNSOUND_STATE = 3,         /* the state is not one that the board, the slots or the counting writer can have left */
     DFB_REFUSAL_UNKNOWN_APID = 4,          /* the APID is none of the seven, or 0x4E where a waveform's is wanted */
-    DFB_REFUSAL_INCOMPLETE_SET = 5,        /* the set is not complete */
+    DFB_REFUSAL_INCOMPLETE_SET = 5,        /* the words are not exactly one set */
     DFB_REFUSAL_NO_PROCESSOR_ENABLED = 6,  /* a SPEC word with no processor enabled */
     DFB_REFUSAL_ILLEGAL_BAND_CODE = 7,     /* the band code is not legal */
     DFB_REFUSAL_SUM_CODE_OVERFLOW = 8,     /* the sum code's value is 2^64 or more */
@@ -72,9 +72,9 @@ static inline const char *dfb_meaning(unsigned refusal)
     switch (refusal) {
     case DFB_REFUSAL_UNKNOWN_COMMAND: return "the command ID is outside 0x30 to 0x36";
     case DFB_REFUSAL_WRONG_LENGTH: return "a list has a wrong length, an output is too small, or a place or number does not fit";
-    case DFB_REFUSAL_UNSOUND_STATE: return "the state is not one that the board or the slots can have left";
+    case DFB_REFUSAL_UNSOUND_STATE: return "the state is not one that the board, the slots or the counting writer can have left";
     case DFB_REFUSAL_UNKNOWN_APID: return "the APID is none of the seven, or 0x4E where a waveform's is wanted";
-    case DFB_REFUSAL_INCOMPLETE_SET: return "the set is not complete";
+    case DFB_REFUSAL_INCOMPLETE_SET: return "the words are not exactly one set";
     case DFB_REFUSAL_NO_PROCESSOR_ENABLED: return "a SPEC word with no processor enabled";
     case DFB_REFUSAL_ILLEGAL_BAND_CODE: return "the band code is not legal";
     case DFB_REFUSAL_SUM_CODE_OVERFLOW: return "the sum code's value is 2^64 or more";
@@ -129,8 +129,8 @@ static inline unsigned dfb_refusal_u64(uint64_t answer)
     return answer < DFB_REFUSED_63 ? 0u : (unsigned)(answer & 0xFFu);
 }
 
-/* A refusal that has an offset is 2^63 + 256 * offset + its number: the offset. Refusals of dfb_check_commands have one; it is 0 in those of
- * every other function, which have none. */
+/* A refusal that has an offset is 2^63 + 256 * offset + its number: the offset. Refusals of dfb_check_commands and dfb_count_sets have one; it
+ * is 0 in those of every other function, which have none. */
 static inline uint64_t dfb_refusal_offset(uint64_t answer)
 {
     return (answer & ~DFB_REFUSED_63) >> 8;
@@ -274,10 +274,10 @@ static inline size_t dfb_listing_room(size_t log_len)
  * dfb_listing_room(log_len). The text is ASCII and does not end in 0. */
 uint64_t dfb_listing(const uint8_t *log, size_t log_len, uint8_t *out, size_t out_len);
 
-/* ---- command lists ---- */
-
-/* The number of registers, 0x30 to 0x36. */
+/* The number of registers, 0x30 to 0x36, in a list of registers alone. */
 #define DFB_REGISTERS 7
+
+/* ---- command lists ---- */
 
 /* Checks a planner's command list, a log that is read from reset: it has nothing but commands and second marks; seconds never fall; every
  * register stores exactly what is sent; and at each second mark and at the end no processor is enabled or N is at most C. 0 with the final
@@ -285,6 +285,50 @@ uint64_t dfb_listing(const uint8_t *log, size_t log_len, uint8_t *out, size_t ou
  * record: 9, 10, then 18, of a command 1, 20, of a second mark 19, 21; at the end 21, with the list's length as offset. Refusal 2, with
  * offset 0, comes before all these where log_len is 2^55 or more, and after them where registers_len is under 7. */
 uint64_t dfb_check_commands(const uint8_t *log, size_t log_len, uint16_t *registers, size_t registers_len);
+
+/* ---- counted logs ---- */
+
+/* A counted log is a log, its bytes used, the number of finished sets of each APID, and the registers. A log begun empty has used 0, counts 0
+ * and registers 0. Keep the log and all three as the last call left them: at any moment counts and registers are then those that dfb_count_sets gives for
+ * the bytes used. To go on with a log made elsewhere, dfb_count_sets gives both, and used is its length. */
+#define DFB_COUNTS 7
+
+/* The place of an APID's count, with the APIDs in rising order; DFB_COUNTS for any other. */
+static inline size_t dfb_count_place(uint8_t apid)
+{
+    return apid == DFB_APID_SPEC ? DFB_COUNTS - 1 : dfb_set_words(apid) != 0 ? (size_t)(apid - DFB_APID_E_SVY) : DFB_COUNTS;
+}
+
+/* Each call writes its records behind the bytes used as dfb_append does, all of them or none: the new number of bytes used, or a refusal. 2
+ * first where counts_len is not 7 or registers_len is not 7; 3 where a register is not a value that a command stores, or a count is greater
+ * than used; then those named below; last 2 where used is past the end or there is no room for all the records. */
+
+/* A command, written as it is sent; its register then has the value stored. Refusal 1. */
+uint64_t dfb_counted_command(uint8_t *log, size_t log_len, size_t used, uint64_t *counts, size_t counts_len, uint16_t *registers,
+                             size_t registers_len, uint8_t id, uint16_t information);
+
+/* A second mark. */
+uint64_t dfb_counted_mark(uint8_t *log, size_t log_len, size_t used, uint64_t *counts, size_t counts_len, uint16_t *registers,
+                          size_t registers_len, uint32_t seconds);
+
+/* A tick. */
+uint64_t dfb_counted_tick(uint8_t *log, size_t log_len, size_t used, uint64_t *counts, size_t counts_len, uint16_t *registers,
+                          size_t registers_len);
+
+/* One waveform set; the count of its APID rises by 1. Refusal 4, 0x4E too, then 5 where the samples are not exactly the set's. */
+uint64_t dfb_counted_set(uint8_t *log, size_t log_len, size_t used, uint64_t *counts, size_t counts_len, uint16_t *registers,
+                         size_t registers_len, uint8_t apid, const int16_t *samples, size_t samples_len);
+
+/* One SPEC set, as the 3 bytes for each word that dfb_tick writes; the last count rises by 1. Refusal 6, 5 where the bytes are not exactly
+ * those of one report by the registers, or a word is not under 0x4E, then 7. */
+uint64_t dfb_counted_report(uint8_t *log, size_t log_len, size_t used, uint64_t *counts, size_t counts_len, uint16_t *registers,
+                            size_t registers_len, const uint8_t *words, size_t words_len);
+
+/* Counts the sets of a whole log, also one over 65,536 bytes, read from reset as dfb_listing reads it: 0 with the counts in counts[0..7] and the final
+ * registers in registers[0..7], or the refusal of the record at fault with its offset: 9, 10, 5, then 1 for a command, 4, 6, 7 for a word; 5
+ * with the log's length as offset for a set cut by its end. Refusal 2, with offset 0, comes before all these where log_len is 2^55 or more,
+ * and after them where a list is under 7 long. */
+uint64_t dfb_count_sets(const uint8_t *log, size_t log_len, uint64_t *counts, size_t counts_len, uint16_t *registers, size_t registers_len);
 
 /* ---- bands and codes ---- */
 

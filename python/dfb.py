@@ -9,11 +9,12 @@ import ctypes
 import os
 import typing
 
-__version__ = "0.8.0"
+__version__ = "0.9.0"
 
 STATE, TOTALS, POWERS, OUTPUT = 9, 784, 7168, 1176
 RECORD, MOST_WORDS = 3, 7
 REGISTERS = 7
+COUNTS = 7
 FINE_TOTALS, MOST_TOTAL = 112, 1 << 49
 END, COMMAND, WORD, SECOND_MARK, TICK = 0, 1, 2, 3, 4
 FREE, HELD, SENDING = 0, 1, 2
@@ -21,9 +22,9 @@ FREE, HELD, SENDING = 0, 1, 2
 MEANINGS = {
     1: "the command ID is outside 0x30 to 0x36",
     2: "a list has a wrong length, an output is too small, or a place or number does not fit",
-    3: "the state is not one that the board or the slots can have left",
+    3: "the state is not one that the board, the slots or the counting writer can have left",
     4: "the APID is none of the seven, or 0x4E where a waveform's is wanted",
-    5: "the set is not complete",
+    5: "the words are not exactly one set",
     6: "a SPEC word with no processor enabled",
     7: "the band code is not legal",
     8: "the sum code's value is 2^64 or more",
@@ -72,6 +73,9 @@ def _list(c_type):
     return [ctypes.POINTER(c_type), SIZE]
 
 
+# A log, its bytes used, counts and registers.
+_counted = _list(U8) + [SIZE] + _list(U64) + _list(U16)
+
 _library = _load()
 for _name, _answer, _arguments in (
     ("command", U32, _list(U16) + _list(U64) + [U8, U16]),
@@ -83,6 +87,12 @@ for _name, _answer, _arguments in (
     ("read_record", U64, _list(U8) + [SIZE] + _list(U32)),
     ("listing", U64, _list(U8) + _list(U8)),
     ("check_commands", U64, _list(U8) + _list(U16)),
+    ("counted_command", U64, _counted + [U8, U16]),
+    ("counted_mark", U64, _counted + [U32]),
+    ("counted_tick", U64, _counted),
+    ("counted_set", U64, _counted + [U8] + _list(ctypes.c_int16)),
+    ("counted_report", U64, _counted + _list(U8)),
+    ("count_sets", U64, _list(U8) + _list(U64) + _list(U16)),
     ("band_of", U16, [U8, U16]),
     ("compress_band", U8, [U32]),
     ("expand_band", U64, [U8]),
@@ -227,6 +237,85 @@ def check_commands(log):
     log, registers = _numbers("B", U8, log), (U16 * REGISTERS)()
     _below_63_at(_library.dfb_check_commands(log, len(log), registers, REGISTERS))
     return tuple(registers)
+
+
+class Tally(typing.NamedTuple):
+    """The number of finished sets of each APID of a log (0x43 to 0x48, then 0x4E), and the registers 0x30 to 0x36 at its end."""
+
+    counts: tuple
+    registers: tuple
+
+
+def count_sets(log):
+    """The Tally of a whole log of any length, read from reset. Raises Refused with the offset of the record at fault, or with the log's length
+    for a set cut by its end."""
+    log, counts, registers = _numbers("B", U8, log), (U64 * COUNTS)(), (U16 * REGISTERS)()
+    _below_63_at(_library.dfb_count_sets(log, len(log), counts, COUNTS, registers, REGISTERS))
+    return Tally(tuple(counts), tuple(registers))
+
+
+class CountedLog:
+    """A log with the number of its sets, begun empty in the bytearray `log`. The bytes used, counts and registers are kept here between the
+    calls. Each call writes its records, all or none, behind the bytes used: the new number of bytes used."""
+
+    def __init__(self, log):
+        self.log, self.used = log, 0
+        self._counts, self._registers = (U64 * COUNTS)(), (U16 * REGISTERS)()
+
+    @classmethod
+    def open(cls, log, used):
+        """A log made elsewhere, of which so many bytes are used: its sets are counted. Raises Refused as count_sets does, and 2 at offset 0
+        where `used` is past the end."""
+        if _number(used, 64) > len(log):
+            raise Refused(2, 0)
+        counted, tally = cls(log), count_sets(log[:used])
+        counted.used, counted._counts[:], counted._registers[:] = used, tally.counts, tally.registers
+        return counted
+
+    def command(self, ident, information):
+        """Writes a command as it is sent; its register then has the value stored."""
+        return self._write(_library.dfb_counted_command, _number(ident, 8), _number(information, 16))
+
+    def mark(self, seconds):
+        """Writes a second mark."""
+        return self._write(_library.dfb_counted_mark, _number(seconds, 32))
+
+    def tick(self):
+        """Writes a tick."""
+        return self._write(_library.dfb_counted_tick)
+
+    def set(self, apid, samples):
+        """Writes one waveform set."""
+        samples = _numbers("h", ctypes.c_int16, samples)
+        return self._write(_library.dfb_counted_set, _number(apid, 8), samples, len(samples))
+
+    def report(self, words):
+        """Writes one SPEC set: the words of a report, three bytes for each."""
+        words = _numbers("B", U8, words)
+        return self._write(_library.dfb_counted_report, words, len(words))
+
+    @property
+    def counts(self):
+        """The number of finished sets of each APID: 0x43 to 0x48, then 0x4E."""
+        return tuple(self._counts)
+
+    @property
+    def registers(self):
+        """The registers 0x30 to 0x36."""
+        return tuple(self._registers)
+
+    def count(self, apid):
+        """The number of finished sets of an APID; None for an APID that is not one of the seven."""
+        place = 6 if apid == 0x4E else apid - 0x43 if 0x43 <= apid <= 0x48 else None
+        return None if place is None else self._counts[place]
+
+    def _write(self, function, *arguments):
+        used = _number(self.used, 64)
+        buffer = (U8 * len(self.log)).from_buffer(self.log)
+        answer = function(buffer, len(self.log), used, self._counts, COUNTS, self._registers, REGISTERS, *arguments)
+        del buffer  # as in append
+        self.used = _below_63(answer)
+        return self.used
 
 
 def band_of(setting, fft_bin):

@@ -453,16 +453,22 @@ enum { SEVEN = DFB_REGISTERS * sizeof(uint16_t) };
 static uint8_t *command_list;
 static uint16_t *registers;
 
+/* The bytes of hexadecimal digits. */
+static void put_digits(uint8_t *to, const char *digits)
+{
+    for (size_t i = 0; i < strlen(digits) / 2; i++) {
+        unsigned byte = 0;
+        sscanf(digits + 2 * i, "%2x", &byte);
+        to[i] = (uint8_t)byte;
+    }
+}
+
 /* The check of a list of hexadecimal digits, which ends where its memory ends, with so many registers. */
 static uint64_t check_list(const char *digits, size_t registers_len)
 {
     size_t length = strlen(digits) / 2;
     uint8_t *start = command_list + 64 - length;
-    for (size_t i = 0; i < length; i++) {
-        unsigned byte = 0;
-        sscanf(digits + 2 * i, "%2x", &byte);
-        start[i] = (uint8_t)byte;
-    }
+    put_digits(start, digits);
     return dfb_check_commands(start, length, registers, registers_len);
 }
 
@@ -568,6 +574,357 @@ static void test_long_lists_of_commands(void)
     for (size_t i = COMMANDS - 7; i < COMMANDS; i++)
         CHECK(registers[i % 7] == i % 0x17);
     REFUSED_AT(18u, 4u * COMMANDS, dfb_check_commands(commands, 4 * COMMANDS + 1, registers, DFB_REGISTERS));
+}
+
+/* ---- counted logs ---- */
+
+static uint8_t *counted_log;
+static size_t counted_len, used;
+static uint64_t *counts;
+/* What counts and registers are to be. */
+static uint64_t expected_counts[DFB_COUNTS];
+static uint16_t expected_registers[DFB_REGISTERS];
+
+/* A log of so many bytes, begun empty, and the first three lists. */
+static void begin_log(size_t length)
+{
+    drop_lists();
+    counted_log = (uint8_t *)make_list(length);
+    counted_len = length;
+    used = 0;
+    counts = (uint64_t *)zero_list(sizeof expected_counts);
+    registers = (uint16_t *)zero_list(sizeof expected_registers);
+    memset(expected_counts, 0, sizeof expected_counts);
+    memset(expected_registers, 0, sizeof expected_registers);
+}
+
+/* The first arguments of a call. */
+#define COUNTED counted_log, counted_len, used, counts, DFB_COUNTS, registers, DFB_REGISTERS
+
+/* The walk over the bytes used finds the counts and the registers that are kept. */
+static int walk_agrees(void)
+{
+    uint64_t walked_counts[DFB_COUNTS] = {0};
+    uint16_t walked_registers[DFB_REGISTERS] = {0};
+    return dfb_count_sets(counted_log, used, walked_counts, DFB_COUNTS, walked_registers, DFB_REGISTERS) == 0 &&
+           memcmp(walked_counts, counts, sizeof walked_counts) == 0 && memcmp(walked_registers, registers, sizeof walked_registers) == 0;
+}
+
+/* A call is accepted: it writes bytes behind those used and no others, and leaves counts and registers as expected. */
+static void check_written(int line, const uint8_t *bytes, size_t length, uint64_t answer, const char *what)
+{
+    const uint8_t *before = lists[0].before;
+    check(line, answer == used + length && dfb_refusal(answer) == 0, what);
+    check(line, memcmp(counted_log, before, used) == 0 && memcmp(counted_log + used, bytes, length) == 0, what);
+    check(line, memcmp(counted_log + used + length, before + used + length, counted_len - used - length) == 0, what);
+    check(line, memcmp(counts, expected_counts, sizeof expected_counts) == 0, what);
+    check(line, memcmp(registers, expected_registers, sizeof expected_registers) == 0, what);
+    used += length;
+    check(line, walk_agrees(), what);
+}
+
+#define WRITES(digits, call)                                                          \
+    do {                                                                              \
+        uint8_t bytes_[64];                                                           \
+        put_digits(bytes_, digits);                                                   \
+        remember();                                                                   \
+        check_written(__LINE__, bytes_, strlen(digits) / 2, (call), #call);           \
+    } while (0)
+
+static void test_counted_log(void)
+{
+    static const int16_t samples[DFB_MOST_WORDS] = {1, -1, -32768, 32767, 256, -256, 0};
+    begin_log(120);
+    CHECK(DFB_COUNTS == 7);
+    expected_registers[0] = 0x6363;
+    WRITES("0130FFFF", dfb_counted_command(COUNTED, 0x30, 0xFFFF));
+    expected_registers[6] = 0x0032;
+    WRITES("0136FFFF", dfb_counted_command(COUNTED, 0x36, 0xFFFF));
+    WRITES("0389ABCDEF", dfb_counted_mark(COUNTED, 0x89ABCDEF));
+    WRITES("04", dfb_counted_tick(COUNTED));
+    expected_counts[0] = 1;
+    WRITES("02430001" "0243FFFF" "02438000", dfb_counted_set(COUNTED, DFB_APID_E_SVY, samples, 3));
+    expected_counts[4] = 1;
+    WRITES("02470001" "0247FFFF" "02478000" "02477FFF" "02470100" "0247FF00" "02470000", dfb_counted_set(COUNTED, DFB_APID_V_B1, samples, 7));
+    REFUSED_64(5u, dfb_counted_set(COUNTED, DFB_APID_V_B1, samples, 6));
+    REFUSED_64(1u, dfb_counted_command(COUNTED, 0x37, 0));
+    expected_counts[0] = 2;
+    WRITES("02430001" "0243FFFF" "02438000", dfb_counted_set(COUNTED, DFB_APID_E_SVY, samples, 3));
+    expected_registers[0] = 0x0020;
+    WRITES("01300020", dfb_counted_command(COUNTED, 0x30, 0x0020));
+
+    /* room for all records of a call, and for one byte less */
+    while (used < 120 - 12)
+        WRITES("04", dfb_counted_tick(COUNTED));
+    counted_len = 119;
+    REFUSED_64(2u, dfb_counted_set(COUNTED, DFB_APID_SCM_B1, samples, 3));
+    counted_len = 120;
+    expected_counts[5] = 1;
+    WRITES("02480001" "0248FFFF" "02488000", dfb_counted_set(COUNTED, DFB_APID_SCM_B1, samples, 3));
+    REFUSED_64(2u, dfb_counted_tick(COUNTED));
+}
+
+/* Every APID with every number of samples; the place of its count. */
+static void test_counted_sets(void)
+{
+    static const uint8_t apids[DFB_COUNTS] = {0x43, 0x44, 0x45, 0x46, 0x47, 0x48, 0x4E};
+    begin_log(200);
+    int16_t *samples = (int16_t *)make_list(8 * sizeof *samples);
+    for (unsigned apid = 0; apid < 256; apid++) {
+        size_t place = 0, words = dfb_set_words((uint8_t)apid);
+        while (place < DFB_COUNTS && apids[place] != apid)
+            place++;
+        CHECK(dfb_count_place((uint8_t)apid) == place);
+        for (size_t n = 0; n <= 8; n++) {
+            if (words == 0) {
+                REFUSED_64(4u, dfb_counted_set(COUNTED, (uint8_t)apid, samples + 8 - n, n));
+            } else if (n != words) {
+                REFUSED_64(5u, dfb_counted_set(COUNTED, (uint8_t)apid, samples + 8 - n, n));
+            } else {
+                uint8_t records[4 * DFB_MOST_WORDS];
+                for (size_t i = 0; i < n; i++) {
+                    uint16_t bits = (uint16_t)samples[8 - n + i];
+                    records[4 * i] = DFB_KIND_WORD;
+                    records[4 * i + 1] = (uint8_t)apid;
+                    records[4 * i + 2] = (uint8_t)(bits >> 8);
+                    records[4 * i + 3] = (uint8_t)(bits & 0xFFu);
+                }
+                expected_counts[place]++;
+                remember();
+                uint64_t answer = dfb_counted_set(COUNTED, (uint8_t)apid, samples + 8 - n, n);
+                check_written(__LINE__, records, 4 * n, answer, "a set");
+            }
+        }
+    }
+    REFUSED_64(5u, dfb_counted_set(COUNTED, 0x43, NULL, 0));
+    REFUSED_64(4u, dfb_counted_set(COUNTED, DFB_APID_SPEC, NULL, 0));
+}
+
+/* Reports of every size; one word and one byte less and more; a word under another APID; a code that is not legal. */
+static void test_counted_reports(void)
+{
+    static uint8_t records[4 * 392];
+    for (unsigned setting = 0; setting < 3; setting++)
+        for (unsigned enabled = 1; enabled <= 7; enabled++) {
+            size_t words = enabled * dfb_band_count((uint8_t)setting) / 2, bytes = 3 * words;
+            begin_log(4 * 8 + 4 * words + 3);
+            uint8_t *report = (uint8_t *)zero_list(bytes + 3), *start = report + 3;
+            for (size_t i = 0; i < words; i++) {
+                start[3 * i] = DFB_APID_SPEC;
+                start[3 * i + 1] = dfb_compress_band((uint32_t)i * 2654435761u);
+                start[3 * i + 2] = dfb_compress_band((uint32_t)i * 40503u);
+                records[4 * i] = DFB_KIND_WORD;
+                memcpy(records + 4 * i + 1, start + 3 * i, 3);
+            }
+            report[0] = DFB_APID_SPEC;
+            REFUSED_64(6u, dfb_counted_report(COUNTED, start, bytes));
+            REFUSED_64(6u, dfb_counted_report(COUNTED, NULL, 0));
+            memset(expected_registers, 0, sizeof expected_registers);
+            for (unsigned n = 0; n < enabled; n++) {
+                expected_registers[6 - n] = 0x20;
+                CHECK(dfb_counted_command(COUNTED, (uint8_t)(0x36 - n), 0x20) == used + 4);
+                used += 4;
+            }
+            expected_registers[0] = (uint16_t)(setting << 6 | (enabled == 7 ? 0x20u : 0u));
+            CHECK(dfb_counted_command(COUNTED, 0x30, expected_registers[0]) == used + 4);
+            used += 4;
+            CHECK(memcmp(expected_registers, registers, sizeof expected_registers) == 0);
+            REFUSED_64(5u, dfb_counted_report(COUNTED, start + 3, bytes - 3));
+            REFUSED_64(5u, dfb_counted_report(COUNTED, start, bytes - 1));
+            REFUSED_64(5u, dfb_counted_report(COUNTED, report, bytes + 3));
+            REFUSED_64(5u, dfb_counted_report(COUNTED, NULL, 0));
+            const size_t places[] = {0, 1, 2, bytes / 2, bytes - 3, bytes - 2, bytes - 1};
+            for (size_t i = 0; i < sizeof places / sizeof *places; i++) {
+                size_t at = places[i];
+                unsigned refusal = at % 3 == 0 ? 5 : 7;
+                uint8_t byte = start[at];
+                start[at] = at % 3 == 0 ? 0x4D : 0x08;
+                REFUSED_64(refusal, dfb_counted_report(COUNTED, start, bytes));
+                counted_len = used + 4 * words - 1; /* before 2 */
+                REFUSED_64(refusal, dfb_counted_report(COUNTED, start, bytes));
+                start[bytes - 3] = 0x43; /* 5 before 7, whichever word comes first */
+                REFUSED_64(5u, dfb_counted_report(COUNTED, start, bytes));
+                start[bytes - 3] = DFB_APID_SPEC;
+                start[at] = byte;
+                REFUSED_64(2u, dfb_counted_report(COUNTED, start, bytes));
+                counted_len = lists[0].bytes;
+            }
+            expected_counts[6] = 1;
+            remember();
+            uint64_t answer = dfb_counted_report(COUNTED, start, bytes);
+            check_written(__LINE__, records, 4 * words, answer, "a report");
+        }
+}
+
+/* Calls of each kind, all refused by a number; a report of one processor at 36 bands. */
+static void refuses_all(unsigned refusal, const uint8_t *report, size_t counts_len, size_t registers_len)
+{
+    static const int16_t samples[3] = {0};
+    REFUSED_64(refusal, dfb_counted_command(counted_log, counted_len, used, counts, counts_len, registers, registers_len, 0x30, 0x0020));
+    REFUSED_64(refusal, dfb_counted_mark(counted_log, counted_len, used, counts, counts_len, registers, registers_len, 0));
+    REFUSED_64(refusal, dfb_counted_tick(counted_log, counted_len, used, counts, counts_len, registers, registers_len));
+    REFUSED_64(refusal, dfb_counted_set(counted_log, counted_len, used, counts, counts_len, registers, registers_len, 0x43, samples, 3));
+    REFUSED_64(refusal, dfb_counted_report(counted_log, counted_len, used, counts, counts_len, registers, registers_len, report, 54));
+}
+
+static void test_counted_refused(void)
+{
+    static const int16_t samples[3] = {0};
+    begin_log(100);
+    uint64_t *own_counts = counts, *long_counts = (uint64_t *)zero_list(8 * sizeof *counts);
+    uint16_t *own_registers = registers, *long_registers = (uint16_t *)zero_list(8 * sizeof *registers);
+    uint8_t *report = (uint8_t *)zero_list(54);
+    memset(report, DFB_APID_SPEC, 54); /* 0x4E is a legal code too */
+    registers[0] = 0x0020;
+    used = 20;
+
+    /* 2 for lists that are not 7 long, before 3 */
+    for (unsigned fault = 0; fault < 2; fault++) {
+        counts = long_counts, registers = long_registers;
+        counts[0] = fault == 0 ? 0 : 21;
+        refuses_all(2, report, 8, 7);
+        refuses_all(2, report, 6, 7);
+        refuses_all(2, report, 0, 7);
+        refuses_all(2, report, 7, 8);
+        refuses_all(2, report, 7, 6);
+        refuses_all(2, report, 7, 0);
+        counts = own_counts, registers = own_registers;
+    }
+    REFUSED_64(2u, dfb_counted_tick(counted_log, 100, 0, NULL, 0, registers, 7));
+    REFUSED_64(2u, dfb_counted_tick(counted_log, 100, 0, counts, 7, NULL, 0));
+
+    /* 3 for each register and each count, before 1, 4, 5, 6, 7 and 2 */
+    for (unsigned n = 0; n < 2 * 7; n++) {
+        if (n < 7)
+            registers[n] = n == 0 ? 0x00E0 : 0x0040;
+        else
+            counts[n - 7] = n % 2 == 0 ? 21 : UINT64_MAX;
+        refuses_all(3, report, 7, 7);
+        REFUSED_64(3u, dfb_counted_command(COUNTED, 0x37, 0));
+        REFUSED_64(3u, dfb_counted_set(COUNTED, 0x42, samples, 3));
+        REFUSED_64(3u, dfb_counted_set(COUNTED, 0x43, samples, 2));
+        REFUSED_64(3u, dfb_counted_report(COUNTED, report, 53));
+        report[1] = 0x08;
+        REFUSED_64(3u, dfb_counted_report(COUNTED, report, 54));
+        report[1] = 0x4E;
+        counted_len = 20;
+        refuses_all(3, report, 7, 7);
+        counted_len = 100;
+        if (n < 7)
+            registers[n] = n == 0 ? 0x0020 : 0;
+        else
+            counts[n - 7] = 20; /* equal to used is taken */
+    }
+
+    /* 2: no room, used at the end, past it, and the greatest number */
+    for (size_t i = 0; i < 4; i++) {
+        counted_len = 20;
+        used = i == 3 ? SIZE_MAX : 20 + i;
+        refuses_all(2, report, 7, 7);
+        REFUSED_64(1u, dfb_counted_command(COUNTED, 0x2F, 0)); /* 1, 4, 5, 6 and 7 before it */
+        REFUSED_64(4u, dfb_counted_set(COUNTED, DFB_APID_SPEC, samples, 2));
+        REFUSED_64(5u, dfb_counted_set(COUNTED, 0x43, samples, 2));
+        REFUSED_64(5u, dfb_counted_report(COUNTED, report, 51));
+        report[53] = 0x08;
+        REFUSED_64(7u, dfb_counted_report(COUNTED, report, 54));
+        report[53] = 0x4E;
+        registers[0] = 0;
+        REFUSED_64(6u, dfb_counted_report(COUNTED, report, 51));
+        registers[0] = 0x0020;
+    }
+    REFUSED_64(2u, dfb_counted_tick(NULL, 0, 20, counts, 7, registers, 7));
+    REFUSED_64(3u, dfb_counted_tick(NULL, 0, 0, counts, 7, registers, 7)); /* the counts are 20 */
+}
+
+/* The counts of a log of hexadecimal digits, which ends where its memory ends. */
+static uint64_t count_list(const char *digits, size_t counts_len, size_t registers_len)
+{
+    size_t length = strlen(digits) / 2;
+    uint8_t *start = command_list + 64 - length;
+    put_digits(start, digits);
+    return dfb_count_sets(start, length, counts, counts_len, registers, registers_len);
+}
+
+/* A log that is accepted: its counts and final registers, in lists of 7 and of more, which keep their rest. */
+static void counts_as(const char *digits, const uint64_t sets[DFB_COUNTS], const uint16_t stored[DFB_REGISTERS])
+{
+    for (size_t length = 7; length <= 9; length++) {
+        memset(counts, 0xA5, 9 * sizeof *counts);
+        memset(registers, 0xA5, 9 * sizeof *registers);
+        CHECK(count_list(digits, length, 16 - length) == 0);
+        CHECK(memcmp(counts, sets, 7 * sizeof *counts) == 0 && memcmp(registers, stored, 7 * sizeof *registers) == 0);
+        CHECK(counts[7] == 0xA5A5A5A5A5A5A5A5u && counts[8] == counts[7] && registers[7] == 0xA5A5 && registers[8] == 0xA5A5);
+    }
+    for (size_t length = 0; length < 7; length++) {
+        REFUSED_AT(2u, 0u, count_list(digits, length, 9));
+        REFUSED_AT(2u, 0u, count_list(digits, 9, length));
+    }
+}
+
+/* A log that is refused, before any length of a list is looked at. */
+static void is_not_counted(unsigned refusal, unsigned offset, const char *digits)
+{
+    for (size_t length = 0; length <= 9; length++) {
+        count_list(digits, length, 9 - length); /* writes the log, so that the next call changes nothing by itself */
+        REFUSED_AT(refusal, offset, count_list(digits, length, 9 - length));
+    }
+    REFUSED_AT(refusal, offset, count_list(digits, 7, 7));
+    REFUSED_AT(refusal, offset, count_list(digits, 9, 9));
+}
+
+static void test_count_sets(void)
+{
+    static const uint64_t none[7] = {0}, first[7] = {1}, two[7] = {1, 0, 1};
+    static const uint16_t reset[7] = {0}, on[7] = {0x0020}, all[7] = {0x6363, 0x0032, 0, 0, 0, 0, 0x0016};
+    command_list = (uint8_t *)zero_list(64);
+    counts = (uint64_t *)make_list(9 * sizeof *counts);
+    registers = (uint16_t *)make_list(9 * sizeof *registers);
+    counts_as("", none, reset);
+    counts_as("04" "0300000000" "04", none, reset);
+    counts_as("0130FFFF" "0131FFFF" "01360016", none, all);
+    counts_as("02430001" "0243FFFF" "02438000", first, reset);
+    counts_as("02450001" "0245FFFF" "02458000" "01300020" "02430001" "0243FFFF" "02438000" "04", two, on);
+
+    is_not_counted(9, 0, "00");
+    is_not_counted(9, 4, "01300020" "05");
+    is_not_counted(10, 1, "04" "013000");
+    is_not_counted(10, 5, "04" "02430001" "024300");
+    is_not_counted(1, 4, "01300020" "01370000");
+    is_not_counted(4, 1, "04" "02420000");
+    is_not_counted(5, 8, "02430001" "02430001" "04");
+    is_not_counted(5, 4, "02430001" "01370000");
+    is_not_counted(5, 8, "01300020" "024E0C0C" "02430001");
+    is_not_counted(6, 0, "024E0808");
+    is_not_counted(7, 4, "01300020" "024E0008");
+    is_not_counted(7, 8, "01300020" "024E0C0C" "024E0800");
+    /* at the end, the log's length */
+    is_not_counted(5, 8, "02430001" "02430001");
+    is_not_counted(5, 13, "04" "01300020" "02430001" "02430001");
+    is_not_counted(5, 8, "01300020" "024E0C0C");
+
+    /* No log has 2^55 bytes: see test_check_commands. */
+    command_list[0] = 0;
+    REFUSED_AT(2u, 0u, dfb_count_sets(command_list, (size_t)1 << 55, counts, 9, registers, 9));
+    REFUSED_AT(2u, 0u, dfb_count_sets(command_list, SIZE_MAX, counts, 7, registers, 7));
+    REFUSED_AT(2u, 0u, dfb_count_sets(command_list, (size_t)1 << 55, NULL, 0, NULL, 0));
+    REFUSED_AT(2u, 0u, dfb_count_sets(NULL, 0, NULL, 0, NULL, 0));
+    REFUSED_AT(9u, 0u, dfb_count_sets(command_list, 64, NULL, 0, NULL, 0));
+    CHECK(dfb_count_sets(NULL, 0, counts, 7, registers, 7) == 0);
+}
+
+/* A log, counts and an offset of more than 2^16. */
+static void test_long_counted_log(void)
+{
+    enum { SETS = 100000 };
+    static const int16_t samples[3] = {-1, 0, 1};
+    begin_log(12 * SETS + 1);
+    for (size_t i = 0; i < SETS; i++)
+        used = (size_t)dfb_counted_set(COUNTED, 0x46, samples, 3);
+    CHECK(used == 12 * SETS && counts[3] == SETS && walk_agrees());
+    CHECK(dfb_counted_tick(COUNTED) == 12 * SETS + 1);
+    counted_log[12 * SETS] = 5;
+    REFUSED_AT(9u, 12u * SETS, dfb_count_sets(counted_log, 12 * SETS + 1, counts, 7, registers, 7));
+    REFUSED_AT(5u, 12u * SETS - 4u, dfb_count_sets(counted_log, 12 * SETS - 4, counts, 7, registers, 7));
 }
 
 /* ---- bands and codes ---- */
@@ -888,6 +1245,12 @@ static const struct test {
     {"listing", test_listing},
     {"command lists", test_check_commands},
     {"long command lists", test_long_lists_of_commands},
+    {"counted log", test_counted_log},
+    {"counted sets", test_counted_sets},
+    {"counted reports", test_counted_reports},
+    {"counted calls refused", test_counted_refused},
+    {"count_sets", test_count_sets},
+    {"long counted log", test_long_counted_log},
     {"bands", test_bands},
     {"cadence", test_cadence},
     {"codes", test_codes},

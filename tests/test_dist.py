@@ -111,6 +111,9 @@ class Dist(Tools):
         self.assertEqual(self.run_as_written("C", "walk.c", "docs", "HANDBOOK.md"), example("It prints", "docs", "HANDBOOK.md"))
         self.compile_and_run("cc", C99, example("C", "docs", "HANDBOOK.md"), example("It prints", "docs", "HANDBOOK.md"))
 
+    def test_handbook_python(self):
+        self.assertEqual(self.run_as_written("Python", "counted.py", "docs", "HANDBOOK.md"), example("It shows", "docs", "HANDBOOK.md"))
+
     def test_handbook_beside_the_header(self):
         """What is to be tried can be tried in dist/."""
         for command, last in re.findall(r"Try it: `([^`]*)` ends in `([^`]*)`", read("docs", "HANDBOOK.md")):

@@ -22,8 +22,8 @@ def read(*path):
 
 def sources():
     """The text of each declaration."""
-    crates = "refusal registers words log model listing bursts interval coarse dfb_refusals"
-    crates += " dfb_board dfb_log dfb_bands dfb_bursts dfb_interval dfb_coarse dfb_checker"
+    crates = "refusal registers words log model listing bursts interval coarse counts dfb_refusals"
+    crates += " dfb_board dfb_log dfb_bands dfb_bursts dfb_interval dfb_coarse dfb_checker dfb_counts"
     texts = {crate: read("crates", crate, "src", "lib.rt") for crate in crates.split()}
     texts.update(header=read("include", "dfb.h"), rust=read("rust", "src", "lib.rs"), python=read("python", "dfb.py"))
     texts.update(cargo=read("rust", "Cargo.toml"))
@@ -183,6 +183,7 @@ def rattle_constants(texts):
     constants["DFB_RECORD"] = number(one(r"numbers\.len\(\) < (\d+)", texts["dfb_log"]))
     constants["DFB_MOST_LISTED"] = rattle_constant(texts["listing"], "MOST")
     constants["DFB_REGISTERS"] = rattle_constant(texts["registers"], "COUNT")
+    constants["DFB_COUNTS"] = rattle_constant(texts["counts"], "LENGTH")
     for name in ("Rate", "Period"):
         constants["DFB_" + name.upper()] = number(one(r"Cadence::%s\(\w+\) => put_value\(value, \w+, (\d+)\)" % name, texts["dfb_bands"]))
     constants.update({"DFB_" + name: rattle_constant(texts["coarse"], name) for name in ("FINE_TOTALS", "MOST_TOTAL")})
@@ -215,7 +216,7 @@ def function_differences(texts, module):
 def constant_differences(texts, module):
     expected = {**rattle_constants(texts), **version_constants(texts["header"])}
     differences = compare("header", header_constants(texts["header"]), expected)
-    names = {"STATE", "TOTALS", "POWERS", "OUTPUT", "RECORD", "MOST_WORDS", "REGISTERS", "FINE_TOTALS", "MOST_TOTAL"}
+    names = {"STATE", "TOTALS", "POWERS", "OUTPUT", "RECORD", "MOST_WORDS", "REGISTERS", "COUNTS", "FINE_TOTALS", "MOST_TOTAL"}
     python = {name: expected["DFB_" + name] for name in names}
     python.update({name: expected["DFB_KIND_" + name] for name in ("END", "COMMAND", "WORD", "SECOND_MARK", "TICK")})
     python.update({name: expected["DFB_SLOT_" + name] for name in ("FREE", "HELD", "SENDING")})
@@ -273,7 +274,7 @@ WRONG_EDITS = [
     ("header", "DFB_KIND_SECOND_MARK = 3", "DFB_KIND_SECOND_MARK = 4"),
     ("header", "DFB_SLOT_SENDING = 2", "DFB_SLOT_SENDING = 3"),
     ("header", "/* a slot is already sending */", "/* a slot is sending */"),
-    ("header", 'return "the set is not complete"', 'return "the set is complete"'),
+    ("header", 'return "the words are not exactly one set"', 'return "the words are exactly one set"'),
     ("header", "#define DFB_VERSION_MINOR ", "#define DFB_VERSION_MINOR 1"),
     ("header", "#define DFB_VERSION_PATCH ", "#define DFB_VERSION_PATCH 1"),
     ("header", "#define DFB_RATE 0u", "#define DFB_RATE 1u"),
@@ -285,6 +286,17 @@ WRONG_EDITS = [
     ("header", "/* a processor is enabled and N is above C */", "/* a processor is enabled and C is above N */"),
     ("header", "uint64_t dfb_check_commands(const uint8_t *log", "uint64_t dfb_check_commands(uint8_t *log"),
     ("header", "uint64_t dfb_check_commands(", "uint32_t dfb_check_commands("),
+    ("header", "#define DFB_COUNTS 7", "#define DFB_COUNTS 6"),
+    ("header", "dfb_counted_command(uint8_t *log", "dfb_counted_command(const uint8_t *log"),
+    ("header", "size_t registers_len, uint8_t id, uint16_t information", "size_t registers_len, uint16_t information, uint8_t id"),
+    ("header", "size_t registers_len, uint32_t seconds", "size_t registers_len, uint16_t seconds"),
+    ("header", "uint64_t dfb_counted_tick(uint8_t *log, size_t log_len, size_t used, uint64_t *counts",
+     "uint64_t dfb_counted_tick(uint8_t *log, size_t used, size_t log_len, uint64_t *counts"),
+    ("header", "uint8_t apid, const int16_t *samples, size_t samples_len);\n\n/* One SPEC set",
+     "uint8_t apid, const uint16_t *samples, size_t samples_len);\n\n/* One SPEC set"),
+    ("header", "size_t registers_len, const uint8_t *words", "size_t registers_len, uint8_t *words"),
+    ("header", "dfb_count_sets(const uint8_t *log, size_t log_len, uint64_t *counts",
+     "dfb_count_sets(const uint8_t *log, size_t log_len, const uint64_t *counts"),
     ("header", "#define DFB_TOTALS 784", "#define DFB_TOTALS 784\n#define DFB_MORE (1u << 3)"),
     ("header", "uint8_t dfb_compress_band(uint32_t value);", "uint8_t dfb_compress_band(uint32_t value);\nextern int dfb_more (void);"),
     ("rust", "pub fn dfb_compress_band(value: u32) -> u8;", "pub fn dfb_compress_band(value: u32) -> u8; pub fn dfb_more(value: u8);"),
@@ -298,6 +310,12 @@ WRONG_EDITS = [
     ("rust", "setting: u8, fine: *const u64, fine_len: usize, out: *mut u64", "setting: u8, fine: *mut u64, fine_len: usize, out: *const u64"),
     ("rust", "pub const REGISTERS: usize = 7", "pub const REGISTERS: usize = 9"),
     ("rust", "log_len: usize, registers: *mut u16", "log_len: usize, registers: *const u16"),
+    ("rust", "pub const COUNTS: usize = 7", "pub const COUNTS: usize = 6"),
+    ("rust", "information: u16,\n        ) -> u64;", "information: u16,\n        ) -> u32;"),
+    ("rust", "seconds: u32,\n        ) -> u64;", "seconds: u64,\n        ) -> u64;"),
+    ("rust", "apid: u8,\n            samples: *const i16", "apid: u8,\n            samples: *mut i16"),
+    ("rust", "words: *const u8,", "words: *const u16,"),
+    ("rust", "pub fn dfb_count_sets(\n            log: *const u8", "pub fn dfb_count_sets(\n            log: *mut u8"),
     ("rust", "ValueAltered = 20,", "ValueAltered = 21,"),
     ("rust", "19 => Refusal::SecondFalls", "21 => Refusal::SecondFalls"),
     ("rust", '"a slot is already sending"', '"a slot is sending"'),
@@ -306,6 +324,14 @@ WRONG_EDITS = [
     ("python", "FINE_TOTALS, MOST_TOTAL = 112, 1 << 49", "FINE_TOTALS, MOST_TOTAL = 112, 1 << 48"),
     ("python", '("check_commands", U64, _list(U8) + _list(U16))', '("check_commands", U64, _list(U8) + _list(U32))'),
     ("python", "REGISTERS = 7\n", "REGISTERS = 9\n"),
+    ("python", "COUNTS = 7\n", "COUNTS = 6\n"),
+    ("python", "_counted = _list(U8) + [SIZE] + _list(U64)", "_counted = _list(U8) + [SIZE] + _list(U32)"),
+    ("python", '("counted_command", U64, _counted + [U8, U16])', '("counted_command", U64, _counted + [U16, U8])'),
+    ("python", '("counted_mark", U64, _counted + [U32])', '("counted_mark", U64, _counted + [U16])'),
+    ("python", '("counted_tick", U64, _counted)', '("counted_tick", U32, _counted)'),
+    ("python", '("counted_set", U64, _counted + [U8] +', '("counted_set", U64, _counted +'),
+    ("python", '("counted_report", U64, _counted + _list(U8))', '("counted_report", U64, _counted + _list(U16))'),
+    ("python", '("count_sets", U64, _list(U8) + _list(U64) + _list(U16))', '("count_sets", U64, _list(U8) + _list(U16) + _list(U64))'),
     ("python", '20: "the register would store another value', '20: "the register would store the value'),
     ("python", '("compress_band", U8, [U32])', '("compress_band", U8, [ctypes.c_int32])'),
     ("python", '("command", U32, _list(U16) + _list(U64)', '("command", U32, _list(U64) + _list(U16)'),
@@ -335,6 +361,9 @@ WRONG_INLINE = [
     ("sizeof(answer) == 2 ? dfb_refusal_u16", "sizeof(answer) == 1 ? dfb_refusal_u16"),
     ("case DFB_APID_V_B1: return DFB_WORDS_V_B1;", "case DFB_APID_V_B1: return DFB_WORDS_E_B1;"),
     ("case DFB_KIND_SECOND_MARK: return 5;", "case DFB_KIND_SECOND_MARK: return 4;"),
+    ("apid == DFB_APID_SPEC ? DFB_COUNTS - 1", "apid == DFB_APID_SPEC ? DFB_COUNTS"),
+    ("(size_t)(apid - DFB_APID_E_SVY) : DFB_COUNTS", "(size_t)(apid - DFB_APID_E_SVY) : DFB_COUNTS - 1"),
+    ("(size_t)(apid - DFB_APID_E_SVY)", "(size_t)(DFB_APID_SCM_B1 - apid)"),
     ("6 * log_len + 64", "6 * log_len + 63"),
     ("? 64 : 6", "? 63 : 6"),
     ("case 1: return 64;", "case 1: return 63;"),

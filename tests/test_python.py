@@ -12,7 +12,9 @@ sys.path.insert(0, DIST)
 sys.path.insert(0, os.path.join(TOP, "tools", "cases"))
 
 import dfb  # noqa: E402
+import counts_model  # noqa: E402
 from checklist_model import Bad, check, command, mark, random_list  # noqa: E402
+from listing_model import random_log  # noqa: E402
 
 EXAMPLE = """\
 stored 0x1120
@@ -148,6 +150,84 @@ class Python(unittest.TestCase):
             else:
                 self.assertEqual(dfb.check_commands(log), tuple(expected))
 
+    def test_counted_log(self):
+        memory = bytearray(b"\xEE" * 120)
+        log = dfb.CountedLog(memory)
+        self.assertEqual((log.used, log.counts, log.registers), (0, (0,) * dfb.COUNTS, (0,) * dfb.REGISTERS))
+        self.refused(6, log.report, bytes(54))
+        self.assertEqual([log.command(0x30, 0xFFE0), log.mark(7), log.tick()], [4, 9, 10])
+        self.assertEqual(log.set(0x45, [1, -1, -32768]), 22)
+        self.refused(5, log.report, b"\x4E\0\0" * 18)
+        self.assertEqual(log.command(0x30, 0x0020), 26)
+        self.assertEqual(log.report(b"\x4E\x0C\x0D" * 18), 98)
+        before = bytes(memory)
+        self.refused(1, log.command, 0x37, 0)
+        self.refused(4, log.set, 0x4E, [0, 0, 0])
+        self.refused(5, log.set, 0x44, [0] * 6)
+        self.refused(5, log.report, b"\x4E\x0C\x08" * 17)
+        self.refused(7, log.report, b"\x4E\x0C\x08" * 18)
+        self.refused(2, log.set, 0x44, [0] * 7)
+        self.assertEqual((bytes(memory), log.used), (before, 98))
+        written = bytes.fromhex("0130FFE0 0300000007 04 02450001 0245FFFF 02458000 01300020") + b"\x02\x4E\x0C\x0D" * 18
+        self.assertEqual(memory, written + b"\xEE" * 22)
+        self.assertEqual((log.counts, log.registers), ((0, 0, 1, 0, 0, 0, 1), (0x0020, 0, 0, 0, 0, 0, 0)))
+        self.assertEqual(dfb.count_sets(memory[: log.used]), (log.counts, log.registers))
+        places = [0x43, 0x44, 0x45, 0x46, 0x47, 0x48, 0x4E]
+        self.assertEqual([log.count(apid) for apid in places], list(log.counts))
+        self.assertEqual({log.count(apid) for apid in range(256) if apid not in places}, {None})
+        try:
+            log.set(0x44, [0] * 7)
+        except dfb.Refused as refused:
+            kept = refused  # its traceback holds no part of the log
+        memory += bytes(100)
+        self.assertEqual((kept.number, log.set(0x44, [0] * 7)), (2, 126))
+        log.used = 2**64 - 1
+        self.refused(2, log.tick)
+        log.used = 0  # less than a count
+        self.refused(3, log.tick)
+
+    def test_opened_log(self):
+        written = bytes.fromhex("01310032 02430001 0243FFFF 02438000 04")
+        log = dfb.CountedLog.open(bytearray(written + bytes(80)), len(written))
+        self.assertEqual((log.used, log.counts, log.registers), (17, (1, 0, 0, 0, 0, 0, 0), (0, 0x0032, 0, 0, 0, 0, 0)))
+        self.assertEqual((log.report(b"\x4E\0\0" * 18), log.count(0x4E)), (89, 1))
+        self.refused(5, dfb.CountedLog.open, bytearray(written), 12, offset=12)
+        self.refused(2, dfb.CountedLog.open, bytearray(written), 18, offset=0)
+        self.assertEqual(dfb.CountedLog.open(bytearray(), 0).used, 0)
+
+    def test_count_sets(self):
+        self.assertEqual(dfb.count_sets(b""), dfb.Tally((0,) * dfb.COUNTS, (0,) * dfb.REGISTERS))
+        sets = bytes.fromhex("02430001 02430002 02430003") * 10000
+        self.assertEqual(dfb.count_sets(sets).counts, (10000, 0, 0, 0, 0, 0, 0))
+        self.refused(5, dfb.count_sets, sets[:-4], offset=119996)
+        self.refused(9, dfb.count_sets, sets + b"\0", offset=120000)
+        r = random.Random(12)
+        for _ in range(2000):
+            log = random_log(r)
+            try:
+                expected = counts_model.count_sets(log)
+            except Bad as bad:
+                self.refused(bad.refusal, dfb.count_sets, log, offset=bad.offset)
+            else:
+                self.assertEqual(dfb.count_sets(log), tuple(map(tuple, expected)))
+
+    def test_random_histories(self):
+        r = random.Random(13)
+        for _ in range(300):
+            memory = bytearray(r.randbytes(r.choice([0, 30, 200, 2000])))
+            log, model = dfb.CountedLog(memory), counts_model.CountedLog(bytearray(memory))
+            for _ in range(20):
+                name, arguments = counts_model.random_call(r, model)
+                try:
+                    getattr(model, name)(*arguments)
+                except counts_model.Refused as refused:
+                    self.refused(refused.number, getattr(log, name), *arguments)
+                else:
+                    self.assertEqual(getattr(log, name)(*arguments), model.used)
+                self.assertEqual((memory, log.used), (model.log, model.used))
+                self.assertEqual((log.counts, log.registers), (tuple(model.counts), tuple(model.registers)))
+                self.assertEqual(dfb.count_sets(memory[: log.used]), (log.counts, log.registers))
+
     def test_cadence(self):
         values = [dfb.cadence_of(choice) for choice in range(11)]
         self.assertEqual(values[:4], [("rate", 8.0), ("rate", 4.0), ("rate", 2.0), ("rate", 1.0)])
@@ -241,7 +321,7 @@ class Python(unittest.TestCase):
         self.refused(26, dfb.choose_interval, [0, 0], 0, 1)
 
     def test_numbers_that_do_not_fit(self):
-        board = dfb.Board()
+        board, log = dfb.Board(), dfb.CountedLog(bytearray(99))
         for function, arguments in (
             (board.command, (0x130, 0)),
             (board.command, (0x30, 0x10000)),
@@ -264,6 +344,15 @@ class Python(unittest.TestCase):
             (dfb.append, (bytearray(9), 0, 4, 0, 2**32)),
             (dfb.read_record, (b"", -1)),
             (dfb.check_commands, ([256],)),
+            (log.command, (0x130, 0)),
+            (log.command, (0x30, 0x10000)),
+            (log.mark, (2**32,)),
+            (log.mark, (-1,)),
+            (log.set, (0x143, [0, 0, 0])),
+            (log.set, (0x43, [0, 0, 32768])),
+            (log.report, ([256] * 54,)),
+            (dfb.count_sets, ([256],)),
+            (dfb.CountedLog.open, (bytearray(9), -1)),
             (dfb.cadence_of, (256,)),
             (dfb.compress_band, (2**32,)),
             (dfb.coarse_totals, (256, [0] * 112)),
@@ -276,6 +365,7 @@ class Python(unittest.TestCase):
         ):
             self.assertRaises(OverflowError, function, *arguments)
         self.assertEqual(bytes(board.state), bytes(2 * dfb.STATE))
+        self.assertEqual((log.log, log.used), (bytes(99), 0))
 
 
 class Library(unittest.TestCase):

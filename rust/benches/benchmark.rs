@@ -1,6 +1,6 @@
-//! Nanoseconds of tick, coarse totals, listing, check of a command list and pack: the proved library beside plain C and plain Rust, which make
-//! the same checks, in one run on the same inputs. Each figure is the best of many rounds (DFB_ROUNDS, 60 unless set). Before a row is timed,
-//! all must agree.
+//! Nanoseconds of tick, coarse totals, listing, check of a command list, pack, and a day's log with counts, without them, and counted by the
+//! walk: the proved library beside plain C and plain Rust, which make the same checks, in one run on the same inputs. Each figure is the best
+//! of many rounds (DFB_ROUNDS, 60 unless set; a third of them for the day's log). Before a row is timed, all must agree.
 #[path = "../../bench/implementations.rs"]
 mod implementations;
 #[path = "../tests/differential/model.rs"]
@@ -12,7 +12,7 @@ mod plain_rust;
 #[allow(dead_code)]
 mod random;
 
-use implementations::Implementation;
+use implementations::{Call, Implementation};
 use random::Random;
 use std::hint::black_box;
 use std::time::Instant;
@@ -99,9 +99,13 @@ struct Bench {
 
 impl Bench {
     /// The least time of each implementation, taken in turn.
-    fn best(&self, mut time: impl FnMut(&Implementation) -> f64) -> Vec<f64> {
+    fn best(&self, time: impl FnMut(&Implementation) -> f64) -> Vec<f64> {
+        self.best_of(self.rounds, time)
+    }
+
+    fn best_of(&self, rounds: usize, mut time: impl FnMut(&Implementation) -> f64) -> Vec<f64> {
         let mut best = vec![f64::INFINITY; self.implementations.len()];
-        for _ in 0..self.rounds {
+        for _ in 0..rounds {
             for (best, implementation) in best.iter_mut().zip(&self.implementations) {
                 *best = best.min(time(implementation));
             }
@@ -208,6 +212,42 @@ impl Bench {
         });
         self.row("pack of 7 samples", &best, false);
     }
+
+    /// A day's log, written with counts, written by append one record at a time, and counted by the walk.
+    fn day(&self, day: &Day) {
+        let (rounds, mut log) = (self.rounds.div_ceil(3), vec![0; Day::BYTES]);
+        let mut results = vec![];
+        for implementation in &self.implementations {
+            let mut tally = ([0; dfb::COUNTS], [0; dfb::REGISTERS]);
+            log.fill(0);
+            assert_eq!(day.appended(implementation, &mut log), Day::BYTES, "the day's records are refused");
+            let appended = log.clone();
+            log.fill(0);
+            let used = day.counted(implementation, &mut log, &mut tally.0, &mut tally.1);
+            assert!(used == Day::BYTES && log == appended, "the day's log is another with counts");
+            let mut walked = ([0; dfb::COUNTS], [0; dfb::REGISTERS]);
+            let answer = (implementation.count_sets)(&log, &mut walked.0, &mut walked.1);
+            assert!(answer == 0 && walked == tally, "the walk counts other sets");
+            results.push((appended, tally));
+        }
+        assert!(results.iter().all(|result| *result == results[0]), "a day's log: the implementations differ");
+
+        let best = self.best_of(rounds, |implementation| {
+            let mut tally = ([0; dfb::COUNTS], [0; dfb::REGISTERS]);
+            nanoseconds(1, || day.counted(implementation, black_box(&mut log), &mut tally.0, &mut tally.1) as u64)
+        });
+        self.row("a day's log with counts", &best, false);
+        let best = self.best_of(rounds, |implementation| nanoseconds(1, || day.appended(implementation, black_box(&mut log)) as u64));
+        self.row("a day's log by append, record by record", &best, false);
+        let best = self.best_of(rounds, |implementation| {
+            let mut tally = ([0; dfb::COUNTS], [0; dfb::REGISTERS]);
+            nanoseconds(1, || (implementation.count_sets)(black_box(&log), &mut tally.0, &mut tally.1))
+        });
+        self.row("counts of the day's log by the walk", &best, false);
+        print!("{:<46}", format!("  in megabytes a second, of {} bytes", Day::BYTES));
+        best.iter().for_each(|time| print!("{:>12.1}", Day::BYTES as f64 * 1000.0 / time));
+        println!();
+    }
 }
 
 /// The best time of one plain loop over the powers of seven processors.
@@ -272,6 +312,58 @@ fn command_list(r: &mut Random) -> Vec<u8> {
     list
 }
 
+/// A day of 86,400 seconds: each has a mark, a tick and a set of each waveform APID, every eighth a report of one processor at 36 bands.
+struct Day {
+    /// Samples that the sets take in turn.
+    samples: Vec<[i16; 7]>,
+    report: Vec<u8>,
+}
+
+impl Day {
+    const SECONDS: usize = 86_400;
+    const BYTES: usize = 4 + Day::SECONDS * (5 + 1 + 26 * 4) + Day::SECONDS / 8 * 18 * 4;
+
+    fn new(r: &mut Random) -> Day {
+        let samples = (0..61).map(|_| [(); 7].map(|()| r.next() as i16)).collect();
+        Day { samples, report: (0..18).flat_map(|_| [0x4E, legal_code(r), legal_code(r)]).collect() }
+    }
+
+    fn calls(&self, mut take: impl FnMut(Call)) {
+        take(Call::Command(0x30, 0x0020));
+        for second in 0..Day::SECONDS {
+            take(Call::Mark(1_204_416_000 + second as u32));
+            take(Call::Tick);
+            for (apid, words) in model::WAVEFORMS {
+                take(Call::Set(apid, &self.samples[(second + apid as usize) % self.samples.len()][..words]));
+            }
+            if second % 8 == 7 {
+                take(Call::Report(&self.report));
+            }
+        }
+    }
+
+    /// Writes the day with counts: the bytes used.
+    fn counted(&self, implementation: &Implementation, log: &mut [u8], counts: &mut [u64], registers: &mut [u16]) -> usize {
+        let mut used = 0;
+        self.calls(|call| used = (implementation.counted)(log, used, counts, registers, call) as usize);
+        used
+    }
+
+    /// Writes the day's records by append: the bytes used.
+    fn appended(&self, implementation: &Implementation, log: &mut [u8]) -> usize {
+        let mut used = 0;
+        let mut append = |kind, a, b| used = (implementation.append)(log, used, kind, a, b) as usize;
+        self.calls(|call| match call {
+            Call::Command(id, information) => append(1, id, information.into()),
+            Call::Mark(seconds) => append(3, 0, seconds),
+            Call::Tick => append(4, 0, 0),
+            Call::Set(apid, samples) => samples.iter().for_each(|&sample| append(2, apid, sample as u16 as u32)),
+            Call::Report(words) => words.chunks_exact(3).for_each(|word| append(2, word[0], (word[1] as u32) << 8 | word[2] as u32)),
+        });
+        used
+    }
+}
+
 fn main() {
     let rounds = std::env::var("DFB_ROUNDS").map_or(60, |rounds| rounds.parse().expect("DFB_ROUNDS is a number"));
     let mut implementations = vec![implementations::proved()];
@@ -298,6 +390,7 @@ fn main() {
     bench.listing("112 bands", &repeated(&[1, 0x30, 0x00, 0xA0], &spec_words(&mut r, 56)));
     bench.check_commands(&command_list(&mut r));
     bench.pack();
+    bench.day(&Day::new(&mut r));
     println!("interval of 16,000 criteria: {:.1} ns", interval(rounds));
 
     for (implementation, (least, greatest)) in bench.implementations[1..].iter().zip(&bench.ratios) {

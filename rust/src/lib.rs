@@ -24,8 +24,10 @@ pub const POWERS: usize = 7168;
 /// The least length of a tick's output.
 pub const OUTPUT: usize = 1176;
 
-/// The number of registers that `check_commands` gives.
+/// The number of registers, 0x30 to 0x36, in a list of registers alone.
 pub const REGISTERS: usize = 7;
+/// The number of counts that are kept with a log: one for each APID, 0x43 to 0x48 and 0x4E.
+pub const COUNTS: usize = 7;
 
 /// The number of fine totals that `coarse_totals` converts.
 pub const FINE_TOTALS: usize = 112;
@@ -71,9 +73,9 @@ impl Refusal {
         match self {
             Refusal::UnknownCommand => "the command ID is outside 0x30 to 0x36",
             Refusal::WrongLength => "a list has a wrong length, an output is too small, or a place or number does not fit",
-            Refusal::UnsoundState => "the state is not one that the board or the slots can have left",
+            Refusal::UnsoundState => "the state is not one that the board, the slots or the counting writer can have left",
             Refusal::UnknownApid => "the APID is none of the seven, or 0x4E where a waveform's is wanted",
-            Refusal::IncompleteSet => "the set is not complete",
+            Refusal::IncompleteSet => "the words are not exactly one set",
             Refusal::NoProcessorEnabled => "a SPEC word with no processor enabled",
             Refusal::IllegalBandCode => "the band code is not legal",
             Refusal::SumCodeOverflow => "the sum code's value is 2^64 or more",
@@ -207,6 +209,67 @@ pub mod ffi {
         pub fn dfb_read_record(log: *const u8, log_len: usize, at: usize, numbers: *mut u32, numbers_len: usize) -> u64;
         pub fn dfb_listing(log: *const u8, log_len: usize, out: *mut u8, out_len: usize) -> u64;
         pub fn dfb_check_commands(log: *const u8, log_len: usize, registers: *mut u16, registers_len: usize) -> u64;
+        pub fn dfb_counted_command(
+            log: *mut u8,
+            log_len: usize,
+            used: usize,
+            counts: *mut u64,
+            counts_len: usize,
+            registers: *mut u16,
+            registers_len: usize,
+            id: u8,
+            information: u16,
+        ) -> u64;
+        pub fn dfb_counted_mark(
+            log: *mut u8,
+            log_len: usize,
+            used: usize,
+            counts: *mut u64,
+            counts_len: usize,
+            registers: *mut u16,
+            registers_len: usize,
+            seconds: u32,
+        ) -> u64;
+        pub fn dfb_counted_tick(
+            log: *mut u8,
+            log_len: usize,
+            used: usize,
+            counts: *mut u64,
+            counts_len: usize,
+            registers: *mut u16,
+            registers_len: usize,
+        ) -> u64;
+        pub fn dfb_counted_set(
+            log: *mut u8,
+            log_len: usize,
+            used: usize,
+            counts: *mut u64,
+            counts_len: usize,
+            registers: *mut u16,
+            registers_len: usize,
+            apid: u8,
+            samples: *const i16,
+            samples_len: usize,
+        ) -> u64;
+        pub fn dfb_counted_report(
+            log: *mut u8,
+            log_len: usize,
+            used: usize,
+            counts: *mut u64,
+            counts_len: usize,
+            registers: *mut u16,
+            registers_len: usize,
+            words: *const u8,
+            words_len: usize,
+        ) -> u64;
+        pub fn dfb_count_sets(
+            log: *const u8,
+            log_len: usize,
+            counts: *mut u64,
+            counts_len: usize,
+            registers: *mut u16,
+            registers_len: usize,
+        ) -> u64;
         pub fn dfb_band_of(setting: u8, bin: u16) -> u16;
         pub fn dfb_compress_band(value: u32) -> u8;
         pub fn dfb_expand_band(code: u8) -> u64;
@@ -256,6 +319,125 @@ impl Board {
     }
 }
 
+/// What is kept with a log: the number of finished sets of each APID (0x43 to 0x48, then 0x4E), and the registers 0x30 to 0x36.
+#[derive(Clone, Copy, Debug, PartialEq, Eq)]
+pub struct Tally {
+    pub counts: [u64; COUNTS],
+    pub registers: [u16; REGISTERS],
+}
+
+impl Tally {
+    /// The number of finished sets of an APID; None for an APID that is not one of the seven.
+    pub fn count(&self, apid: u8) -> Option<u64> {
+        match apid {
+            0x43..=0x48 => Some(self.counts[usize::from(apid - 0x43)]),
+            0x4E => Some(self.counts[6]),
+            _ => None,
+        }
+    }
+}
+
+/// A log with the number of its sets: the log's memory, its bytes used and its tally, kept between the calls.
+///
+/// ```
+/// let mut memory = [0; 100];
+/// let mut log = dfb::CountedLog::begin(&mut memory);
+/// log.command(0x30, 0x0020)?; // processor 1, 36 bands
+/// log.mark(7)?;
+/// log.set(0x43, &[1, -1, -32768])?;
+/// log.report(&[0x4E, 0x0C, 0x0D].repeat(18))?;
+/// assert_eq!(log.set(0x43, &[1, -1]), Err(dfb::Refusal::IncompleteSet));
+/// assert_eq!((log.count(0x43), log.count(0x4E), log.count(0x42)), (Some(1), Some(1), None));
+/// assert_eq!(dfb::count_sets(log.bytes()), Ok(*log.tally()));
+/// # Ok::<(), dfb::Refusal>(())
+/// ```
+#[derive(Debug)]
+pub struct CountedLog<'a> {
+    log: &'a mut [u8],
+    used: usize,
+    tally: Tally,
+}
+
+impl<'a> CountedLog<'a> {
+    /// An empty log in this memory.
+    pub fn begin(log: &'a mut [u8]) -> CountedLog<'a> {
+        CountedLog { log, used: 0, tally: Tally { counts: [0; COUNTS], registers: [0; REGISTERS] } }
+    }
+
+    /// A log made elsewhere, of which so many bytes are used: its sets are counted. Refused as `count_sets` refuses, and by 2 with offset 0
+    /// where `used` is past the end.
+    pub fn open(log: &'a mut [u8], used: usize) -> Result<CountedLog<'a>, RefusedAt> {
+        let bytes = log.get(..used).ok_or(RefusedAt { refusal: Refusal::WrongLength, offset: 0 })?;
+        let tally = count_sets(bytes)?;
+        Ok(CountedLog { log, used, tally })
+    }
+
+    /// As the function `counted_command`.
+    pub fn command(&mut self, id: u8, information: u16) -> Result<usize, Refusal> {
+        let Tally { counts, registers } = &mut self.tally;
+        self.used = counted_command(self.log, self.used, counts, registers, id, information)?;
+        Ok(self.used)
+    }
+
+    /// As the function `counted_mark`.
+    pub fn mark(&mut self, seconds: u32) -> Result<usize, Refusal> {
+        let Tally { counts, registers } = &mut self.tally;
+        self.used = counted_mark(self.log, self.used, counts, registers, seconds)?;
+        Ok(self.used)
+    }
+
+    /// As the function `counted_tick`.
+    pub fn tick(&mut self) -> Result<usize, Refusal> {
+        let Tally { counts, registers } = &mut self.tally;
+        self.used = counted_tick(self.log, self.used, counts, registers)?;
+        Ok(self.used)
+    }
+
+    /// As the function `counted_set`.
+    pub fn set(&mut self, apid: u8, samples: &[i16]) -> Result<usize, Refusal> {
+        let Tally { counts, registers } = &mut self.tally;
+        self.used = counted_set(self.log, self.used, counts, registers, apid, samples)?;
+        Ok(self.used)
+    }
+
+    /// As the function `counted_report`.
+    pub fn report(&mut self, words: &[u8]) -> Result<usize, Refusal> {
+        let Tally { counts, registers } = &mut self.tally;
+        self.used = counted_report(self.log, self.used, counts, registers, words)?;
+        Ok(self.used)
+    }
+
+    /// The bytes written so far.
+    pub fn bytes(&self) -> &[u8] {
+        &self.log[..self.used]
+    }
+
+    /// How many they are.
+    pub fn used(&self) -> usize {
+        self.used
+    }
+
+    /// Counts and registers.
+    pub fn tally(&self) -> &Tally {
+        &self.tally
+    }
+
+    /// The number of finished sets of each APID.
+    pub fn counts(&self) -> &[u64; COUNTS] {
+        &self.tally.counts
+    }
+
+    /// The registers 0x30 to 0x36.
+    pub fn registers(&self) -> &[u16; REGISTERS] {
+        &self.tally.registers
+    }
+
+    /// The number of finished sets of an APID; None for an APID that is not one of the seven.
+    pub fn count(&self, apid: u8) -> Option<u64> {
+        self.tally.count(apid)
+    }
+}
+
 // Refusals start at these, above 8-bit, 16-bit and 63-bit answers.
 const REFUSED_8: u64 = 0x100;
 const REFUSED_16: u64 = 0x1_0000;
@@ -270,6 +452,14 @@ fn answer(number: u64, refused: u64) -> Result<u64, Refusal> {
     } else {
         Err(Refusal::of(number - refused))
     }
+}
+
+/// 0, or a refusal that has an offset.
+fn answer_at(number: u64) -> Result<(), RefusedAt> {
+    if number < REFUSED_63 {
+        return Ok(());
+    }
+    Err(RefusedAt { refusal: Refusal::of(number & 0xFF), offset: (number - REFUSED_63) >> 8 })
 }
 
 /// Sends a command: the value stored. Phase, number of reports and totals become 0. Refusals 2, 3, 1.
@@ -366,10 +556,69 @@ pub fn check_commands(log: &[u8]) -> Result<[u16; REGISTERS], RefusedAt> {
     let mut registers = [0; REGISTERS];
     // SAFETY: as in command.
     let number = unsafe { ffi::dfb_check_commands(log.as_ptr(), log.len(), registers.as_mut_ptr(), registers.len()) };
-    if number < REFUSED_63 {
-        return Ok(registers);
-    }
-    Err(RefusedAt { refusal: Refusal::of(number & 0xFF), offset: (number - REFUSED_63) >> 8 })
+    answer_at(number).map(|()| registers)
+}
+
+// Calls a function of the counting writer on a log, its bytes used, counts and registers.
+macro_rules! counted {
+    ($function:ident, $log:ident, $used:ident, $counts:ident, $registers:ident $(, $argument:expr)*) => {{
+        let (log_len, counts_len, registers_len) = ($log.len(), $counts.len(), $registers.len());
+        let (log, counts, registers) = ($log.as_mut_ptr(), $counts.as_mut_ptr(), $registers.as_mut_ptr());
+        // SAFETY: as in command.
+        let number = unsafe { ffi::$function(log, log_len, $used, counts, counts_len, registers, registers_len $(, $argument)*) };
+        answer(number, REFUSED_63).map(|used| used as usize)
+    }};
+}
+
+/// Writes a command to a counted log behind the bytes used, as it is sent; its register then has the value stored. The new number of bytes
+/// used. Refusals 2 where `counts` or `registers` are not 7, 3, 1, then 2 for room.
+pub fn counted_command(
+    log: &mut [u8],
+    used: usize,
+    counts: &mut [u64],
+    registers: &mut [u16],
+    id: u8,
+    information: u16,
+) -> Result<usize, Refusal> {
+    counted!(dfb_counted_command, log, used, counts, registers, id, information)
+}
+
+/// Writes a second mark: the new number of bytes used. Refusals 2, 3, 2.
+pub fn counted_mark(log: &mut [u8], used: usize, counts: &mut [u64], registers: &mut [u16], seconds: u32) -> Result<usize, Refusal> {
+    counted!(dfb_counted_mark, log, used, counts, registers, seconds)
+}
+
+/// Writes a tick: the new number of bytes used. Refusals 2, 3, 2.
+pub fn counted_tick(log: &mut [u8], used: usize, counts: &mut [u64], registers: &mut [u16]) -> Result<usize, Refusal> {
+    counted!(dfb_counted_tick, log, used, counts, registers)
+}
+
+/// Writes one waveform set, and raises the count of its APID by 1: the new number of bytes used. Refusals 2, 3, 4, 5, 2.
+pub fn counted_set(
+    log: &mut [u8],
+    used: usize,
+    counts: &mut [u64],
+    registers: &mut [u16],
+    apid: u8,
+    samples: &[i16],
+) -> Result<usize, Refusal> {
+    counted!(dfb_counted_set, log, used, counts, registers, apid, samples.as_ptr(), samples.len())
+}
+
+/// Writes one SPEC set, the words of a report by the registers, and raises the last count by 1: the new number of bytes used. Refusals 2, 3,
+/// 6, 5, 7, 2.
+pub fn counted_report(log: &mut [u8], used: usize, counts: &mut [u64], registers: &mut [u16], words: &[u8]) -> Result<usize, Refusal> {
+    counted!(dfb_counted_report, log, used, counts, registers, words.as_ptr(), words.len())
+}
+
+/// Counts the sets of a whole log of any length, read from reset: its tally, or the refusal of the record at fault with its offset. Refusals
+/// of a record 9, 10, 5, then 1 for a command, 4, 6, 7 for a word; 5 with the log's length as offset for a set cut by its end.
+pub fn count_sets(log: &[u8]) -> Result<Tally, RefusedAt> {
+    let (mut counts, mut registers) = ([0; COUNTS], [0; REGISTERS]);
+    // SAFETY: as in command.
+    let number =
+        unsafe { ffi::dfb_count_sets(log.as_ptr(), log.len(), counts.as_mut_ptr(), counts.len(), registers.as_mut_ptr(), registers.len()) };
+    answer_at(number).map(|()| Tally { counts, registers })
 }
 
 /// The band of an FFT bin. Refusal 12.

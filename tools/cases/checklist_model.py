@@ -6,17 +6,9 @@
 """
 import struct
 
-from listing_model import BODY_LENGTH, stored
+from listing_model import BODY_LENGTH, Bad, stored
 
 COMMAND, SECOND_MARK = 1, 3
-
-
-class Bad(Exception):
-    """The first offence."""
-
-    def __init__(self, refusal, offset):
-        super().__init__("BAD %d %d" % (refusal, offset))
-        self.refusal, self.offset = refusal, offset
 
 
 def command(ident, information):

@@ -1,22 +1,14 @@
 -- Nine numbers as a state and back: a state that is read and written again leaves the numbers as they were. Assumes nothing.
-use mathlib.Core.Path.{_≡_, refl, sym, ap, _∙_}
+use mathlib.Core.Path.{_≡_, sym, ap, _∙_}
 use mathlib.Core.List.{List, [], _∷_, _++_, append-assoc}
 use Prim.Native.Nat.{ℕ}
 use native.Mathlib.Omega.{arith}
 use lib.ListN.{length, getD, take, drop}
 use lib.Seq.{sets, sets-eq, getD-take, length-take-le, take-suc, take-all, drop-length}
 use Rattle.lists.specs.Tables.{tabulate}
-use Rattle.lists.proofs.Tables.{tabulate-of}
+use Rattle.lists.proofs.Tables.{tabulate-of, seven, seven-all}
 use Rattle.model.specs.declared.State.{State}
 use Rattle.dfb_board.specs.State.{stateOf, stateWords}
-
--- the first seven numbers of a list
-abbrev seven : List ℕ → List ℕ
-seven l = getD l 0 0 ∷ getD l 1 0 ∷ getD l 2 0 ∷ getD l 3 0 ∷ getD l 4 0 ∷ getD l 5 0 ∷ getD l 6 0 ∷ []
-
-pub seven-all : (l : List ℕ) → length l ≡ 7 → seven l ≡ l
-unfolding tabulate
-seven-all l long = sym (tabulate-of 7 (λ i. getD l i 0) 0 l long (λ i h. refl))
 
 pub seven-of : (l : List ℕ) → length l ≡ 9 → seven l ≡ take 7 l
 unfolding tabulate

@@ -1,5 +1,5 @@
 -- The claims of specs/Claims.antt. Assumes nothing.
-use Prim.Native.Nat.{ℕ, _+_, _^_, _≤_, _<_}
+use Prim.Native.Nat.{ℕ, _^_, _≤_, _<_}
 use mathlib.Core.Path.{_≡_, refl, sym, ap, subst, _∙_}
 use mathlib.Core.Bool.{true, false, false≢true}
 use mathlib.Core.List.{List}
@@ -17,11 +17,11 @@ use Rattle.registers.specs.Access.{register}
 use Rattle.checker.specs.Check.{Judged, accepted, refusedAt, Checked, commandsChecked}
 use Rattle.checker.specs.Claims.{refusesList}
 use Rattle.checker.proofs.Theorems.{check-refusals}
-use Rattle.dfb_refusals.specs.Numbers.{above63, outcomeNumber, withOffset}
+use Rattle.dfb_refusals.specs.Numbers.{above63, outcomeNumber, withOffset, Parts}
 use Rattle.dfb_refusals.proofs.Values.{values-fit}
-use Rattle.dfb_refusals.proofs.Apart.{Below, given-below, refused-below, told-apart}
+use Rattle.dfb_refusals.proofs.Apart.{Below, given-below, refused-below, told-apart, offset-parts}
 use Rattle.dfb_checker.specs.Answer.{judgedAnswer, checkAnswer}
-use Rattle.dfb_checker.specs.Claims.{CheckCommandsApart, Given, CheckCommandsGiven, Parts, CheckCommandsParts}
+use Rattle.dfb_checker.specs.Claims.{CheckCommandsApart, Given, CheckCommandsGiven, CheckCommandsParts}
 
 abbrev Under : Filled ℕ → Type 0
 Under f = Below above63 (f .answer)
@@ -59,14 +59,11 @@ listed-most n e =
     let other : (k : ℕ) → k ≤ 21 → eqb n k ≡ false = λ k l. ne-eqb n k (λ q. absurd (omega (arith, q))) in
     absurd (false≢true (rw (other 9 (omega arith), other 10 (omega arith), other 18 (omega arith), other 1 (omega arith), other 20 (omega arith), other 19 (omega arith), other 21 (omega arith)) at e)))
 
-parts : (n offset : ℕ) → n ≤ 21 → offset < 2 ^ 55 → Parts (above63 + withOffset n offset) n offset
-parts n offset h k = record { fits = omega arith; low = omega arith; high = omega arith }
-
 pub check-commands-parts : CheckCommandsParts
 check-commands-parts log list n offset short e =
     let w = check-refusals log n offset e in
     subst (λ (f : Filled ℕ). Parts (outcomeNumber above63 (f .answer)) n offset) (sym (verdict-answered log list (refusedAt n offset) short e))
-    (parts n offset (listed-most n (w .listed)) (omega (arith, w .inside)))
+    (offset-parts n offset (omega (arith, listed-most n (w .listed))) (omega (arith, w .inside)))
 
 module _ (r : Registers) (list : List ℕ) (room : 7 ≤ length list) where
   long : length (tabulate 7 (register r)) ≡ 7

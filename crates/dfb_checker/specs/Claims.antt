@@ -1,12 +1,12 @@
 -- How a caller tells the answers of the check apart from refusals, and takes a refusal apart. Assumes nothing.
-use Prim.Native.Nat.{ℕ, _-_, _/_, _%_, _^_, _≤_, _<_}
+use Prim.Native.Nat.{ℕ, _^_, _≤_, _<_}
 use mathlib.Core.Path.{_≡_}
 use mathlib.Core.List.{List}
 use lib.ListN.{length, getD}
 use Rattle.registers.specs.declared.Registers.{Registers}
 use Rattle.registers.specs.Access.{register}
 use Rattle.checker.specs.Check.{accepted, refusedAt, commandsChecked}
-use Rattle.dfb_refusals.specs.Numbers.{above63, outcomeNumber, ToldApart}
+use Rattle.dfb_refusals.specs.Numbers.{above63, outcomeNumber, ToldApart, Parts}
 use Rattle.dfb_checker.specs.Answer.{checkAnswer}
 
 abbrev pub CheckCommandsApart : Type 0
@@ -24,12 +24,7 @@ CheckCommandsGiven =
     (log list : List ℕ) (r : Registers) → length log < 2 ^ 55 → commandsChecked log ≡ record { judged = accepted; registers = r } → 7 ≤ length list
     → Given r list (checkAnswer log list .buffer) (outcomeNumber above63 (checkAnswer log list .answer))
 
--- the answer of 64 bits for a refusal: its lower eight bits are the number, and those from 2 ^ 8 to 2 ^ 62 the offset
-pub record Parts (answer number offset : ℕ) : Type 0 where
-  pub fits : answer < 2 ^ 64
-  pub low : answer % 256 ≡ number
-  pub high : (answer - above63) / 256 ≡ offset
-
+-- a refusal gives its number and its offset
 abbrev pub CheckCommandsParts : Type 0
 CheckCommandsParts =
     (log list : List ℕ) (number offset : ℕ) → length log < 2 ^ 55 → commandsChecked log .judged ≡ refusedAt number offset

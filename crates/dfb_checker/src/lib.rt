@@ -9,11 +9,8 @@ use checker::Judgement;
 use refusal::Refusal;
 use registers::Registers;
 
-// A log of so many bytes is refused: offsets have 55 bits.
-const TOO_LONG: usize = 0x80_0000_0000_0000;
-
-// Writes the seven registers to the front of the list. Refused by 2.
-fn put_registers(registers: Registers, list: &mut [u16]) -> u64
+// Writes the seven registers to the front of the list; answers 0. Refused by 2.
+pub fn put_registers(registers: Registers, list: &mut [u16]) -> u64
     ensures { λ r. ⌜ record { answer = r; buffer = now (list .exit) } ≡ filledNumber above63 (valuesPut (record { number = 0; values = tabulate 7 (register registers) }) (now (list .entry))) ⌝ }
 {
     if list.len() < Registers::COUNT {
@@ -31,7 +28,7 @@ fn put_registers(registers: Registers, list: &mut [u16]) -> u64
 pub extern "C" fn dfb_check_commands(log: &[u8], registers: &mut [u16]) -> u64
     ensures { λ r. ⌜ record { answer = r; buffer = now (registers .exit) } ≡ filledNumber above63 (checkAnswer (now (log .entry)) (now (registers .entry))) ⌝ }
 {
-    if TOO_LONG <= log.len() {
+    if dfb_refusals::TOO_LONG <= log.len() {
         return dfb_refusals::above_63(Refusal::WrongLength);
     }
     let verdict = checker::check(log);

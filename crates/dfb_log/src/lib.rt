@@ -29,7 +29,8 @@ fn written_16(written: Written) -> u32
     }
 }
 
-fn written_63(written: Written) -> u64
+// The same of one whose answers have 63 bits.
+pub fn written_63(written: Written) -> u64
     ensures { λ r. ⌜ r ≡ outcomeNumber above63 (writtenOutcome written) ⌝ }
 {
     match written {

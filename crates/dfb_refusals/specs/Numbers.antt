@@ -1,6 +1,6 @@
 -- The numbers that the C interface answers (include/dfb.h): a value, or a base plus a refusal's number, which no value of that function
 -- equals.
-use Prim.Native.Nat.{ℕ, _+_, _*_, _^_}
+use Prim.Native.Nat.{ℕ, _+_, _-_, _*_, _/_, _%_, _^_, _<_}
 use mathlib.Core.Path.{_≡_}
 use mathlib.Core.Bool.{cond}
 use mathlib.Core.List.{List}
@@ -27,6 +27,12 @@ outcomeNumber base (refused n) = base + n
 -- a refusal that has an offset: its number in the lower eight bits, the offset above them
 abbrev pub withOffset : ℕ → ℕ → ℕ
 withOffset number offset = offset * 256 + number
+
+-- the answer of 64 bits for such a refusal: its lower eight bits are the number, and those from 2 ^ 8 to 2 ^ 62 the offset
+pub record Parts (answer number offset : ℕ) : Type 0 where
+  pub fits : answer < 2 ^ 64
+  pub low : answer % 256 ≡ number
+  pub high : (answer - above63) / 256 ≡ offset
 
 -- what a call leaves that writes one list: its answer, and the list afterwards
 pub record FilledNumber (A : Type 0) : Type 0 where

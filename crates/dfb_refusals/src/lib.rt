@@ -19,6 +19,9 @@ pub fn above_63(refusal: Refusal) -> u64
     0x8000_0000_0000_0000 + refusal::number(refusal) as u64
 }
 
+// A log of so many bytes is refused where refusals have offsets: these have 55 bits.
+pub const TOO_LONG: usize = 0x80_0000_0000_0000;
+
 // A refusal above 63-bit answers, with the lower 55 bits of its offset.
 pub fn above_63_at(refusal: Refusal, offset: usize) -> u64
     ensures { λ r. ⌜ r ≡ above63 + withOffset (numberOf refusal) (offset % 2 ^ 55) ⌝ }

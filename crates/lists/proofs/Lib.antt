@@ -7,3 +7,4 @@ pub mod Lowest
 pub mod Best
 pub mod Changes
 pub mod Cuts
+pub mod Maps

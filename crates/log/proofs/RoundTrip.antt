@@ -10,36 +10,19 @@ use lib.ListN.{length, take, drop, length-append}
 use lib.Seq.{length-take-le, take-at}
 use Rattle.lists.proofs.Choices.{cond-at}
 use Rattle.refusal.specs.Outcome.{Outcome, given, refused, Filled}
-use Rattle.log.specs.Format.{recordLength, encode, checked}
+use Rattle.log.specs.Format.{recordLength, encode, encodeAll, checked}
 use Rattle.log.specs.Append.{usedWith, appendChecked, appendOutcome}
 use Rattle.log.specs.History.{Log, begun, usedAfter, acceptedBy, afterCall, afterCalls, accepted, ReadsAs, end, next}
 use Rattle.log.specs.Claims.{RoundTrip}
 use Rattle.log.specs.declared.Record.{Record}
 use Rattle.log.proofs.Encoding.{encode-long, check-gives, read-encoded, read-end}
-
--- the bytes of a list of records
-encodeAll : List Record → List ℕ
-encodeAll [] = []
-encodeAll (r ∷ rs) = encode r ++ encodeAll rs
-
-abbrev AllKnown : List Record → Type 0
-AllKnown [] = Unit {0}
-AllKnown (r ∷ rs) = (checked r ≡ given r) × AllKnown rs
+use Rattle.log.proofs.Records.{AllKnown, encode-snoc, known-snoc}
 
 -- the bytes used of the log are those of the records, which are known
 record Holds (l : Log) (rs : List Record) : Type 0 where
   bytes : take (l .used) (l .buffer) ≡ encodeAll rs
   within : l .used ≤ length (l .buffer)
   known : AllKnown rs
-
-encode-snoc : (rs : List Record) (r : Record) → encodeAll (rs ++ (r ∷ [])) ≡ encodeAll rs ++ encode r
-unfolding encodeAll
-encode-snoc [] r = append-nil (encode r)
-encode-snoc (q ∷ rs) r = ap (λ (l : List ℕ). encode q ++ l) (encode-snoc rs r) ∙ sym (append-assoc (encode q) (encodeAll rs) (encode r))
-
-known-snoc : (rs : List Record) (r : Record) → AllKnown rs → checked r ≡ given r → AllKnown (rs ++ (r ∷ []))
-known-snoc [] r k h = (h, tt)
-known-snoc (q ∷ rs) r k h = (k .0, known-snoc rs r (k .1) h)
 
 -- one call: what held, holds with the record added where it was accepted
 one-call : (l : Log) (rs : List Record) (r : Record) → Holds l rs → Holds (afterCall l r) (rs ++ acceptedBy (appendOutcome (l .buffer) (l .used) r .answer) r)

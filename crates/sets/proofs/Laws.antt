@@ -1,5 +1,5 @@
 -- Laws of lists that are written from the front, and of packed words.
-use Prim.Native.Nat.{ℕ, zero, suc, _+_, _*_, _<_}
+use Prim.Native.Nat.{ℕ, zero, suc, _+_, _*_, _/_, _<_}
 use mathlib.Core.Path.{_≡_, refl, ap, sym, _∙_}
 use mathlib.Core.Bool.{Bool, true, false, _&&_, and-false, and-true, and-assoc}
 use mathlib.Core.List.{List, [], _∷_, _++_}
@@ -56,6 +56,10 @@ samples-more i bytes = rw (add-one i) (samples-snoc i bytes)
 
 first-on : (bytes : List ℕ) (i : ℕ) → getD (drop 3 bytes) (3 * i) 0 ≡ getD bytes (3 * suc i) 0
 first-on bytes i = simp add-zero at (word-on bytes i 0)
+
+-- the words of bytes that are three for each of so many
+pub whole-words : (bytes : List ℕ) (n : ℕ) → length bytes ≡ 3 * n → length bytes / 3 ≡ n
+whole-words bytes n e = omega (arith, e)
 
 pub every-stop : (apid n i : ℕ) (bytes : List ℕ) → i < n → eqb (getD bytes (3 * i) 0) apid ≡ false → everyApid apid n bytes ≡ false
 unfolding everyApid

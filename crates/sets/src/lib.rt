@@ -1,6 +1,6 @@
 // Waveform sets (01, "Words and sets"): sets of signed samples to bytes and back.
 ghost use mathlib.Core.Path.{_≡_};
-ghost use Prim.Native.Nat.{_+_, _*_, _≤_};
+ghost use Prim.Native.Nat.{_+_, _*_, _/_, _≤_};
 ghost use lib.ListN.{length};
 ghost use lib.Seq.{sets};
 ghost use Rattle.lists.specs.Tables.{overwrite};
@@ -58,11 +58,11 @@ pub fn pack(apid: u8, samples: &[i16], out: &mut [u8]) -> Written
     }
 }
 
-// Whether each of n words has the APID.
-fn every_apid(apid: u8, n: usize, bytes: &[u8]) -> bool
-    requires { ⌜ 3 * n ≤ length (now bytes) ⌝ }
-    ensures { λ r. ⌜ r ≡ everyApid apid n (now (bytes .entry)) ⌝ }
+// Whether each whole word of the bytes has the APID.
+pub fn every_apid(apid: u8, bytes: &[u8]) -> bool
+    ensures { λ r. ⌜ r ≡ everyApid apid (length (now (bytes .entry)) / 3) (now (bytes .entry)) ⌝ }
 {
+    let n = bytes.len() / 3;
     let mut i = 0;
     while i < n {
         if bytes[3 * i] != apid {
@@ -96,7 +96,7 @@ fn unpack_set(apid: u8, words: usize, bytes: &[u8], samples: &mut [i16]) -> Writ
     if samples.len() < words {
         return Written::Refused(Refusal::WrongLength);
     }
-    if !every_apid(apid, words, bytes) {
+    if !every_apid(apid, bytes) {
         return Written::Refused(Refusal::IncompleteSet);
     }
     put_samples(words, bytes, samples);

@@ -18,6 +18,11 @@ module _ (stride : ℕ) (bytes : List ℕ) where
   unfolding bitsFrom
   bits-first at n = refl
 
+  pub bits-length : (at n : ℕ) → length (bitsFrom stride bytes at n) ≡ n
+  unfolding bitsFrom
+  bits-length at zero = refl
+  bits-length at (suc n) = ap suc (bits-length (at + stride) n)
+
   pub bits-parts : (at n m : ℕ) → bitsFrom stride bytes at (n + m) ≡ bitsFrom stride bytes at n ++ bitsFrom stride bytes (at + stride * n) m
   unfolding bitsFrom
   bits-parts at zero m =

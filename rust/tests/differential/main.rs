@@ -5,6 +5,7 @@ mod bursts;
 mod check;
 mod coarse;
 mod codes;
+mod counts;
 mod logs;
 mod model;
 mod numbers;

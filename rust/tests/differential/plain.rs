@@ -1,9 +1,10 @@
-//! The plain C of the benchmark and its plain Rust tick, coarse totals and check of command lists against the model, so that it compares
-//! programs that do the same.
+//! The plain C of the benchmark and its plain Rust tick, coarse totals, append, check of command lists and counted logs against the model,
+//! so that it compares programs that do the same.
 use crate::implementations::{plain_c, plain_rust};
 use crate::model::{self, Board, POWERS, STATE, TOTALS};
 use crate::random::{seeds, Buffer, Random};
-use crate::{board, check, coarse, logs};
+use crate::{board, check, coarse, counts, logs};
+use std::collections::BTreeMap;
 
 /// A tick's answer as a number of include/dfb.h.
 fn tick_number(answer: &model::Answer<model::Tick>) -> u32 {
@@ -77,6 +78,47 @@ fn checks() {
             for _ in 0..3 {
                 check::compare_call(&mut r, &implementation, &list);
                 check::damage(&mut r, &mut list);
+            }
+        }
+    }
+}
+
+#[test]
+fn appends() {
+    for implementation in plain_c().into_iter().chain([plain_rust()]) {
+        for seed in seeds(20_000) {
+            let mut r = Random::new(seed);
+            let (kind, a) = (r.pick(&[0, 1, 2, 3, 4, 5, 0xFF]), r.pick(&[0x2F, 0x30, 0x36, 0x37, 0x42, 0x43, 0x48, 0x49, 0x4E]));
+            let (used, b) = (r.pick(&[0, 3, 4, 5, 7, 8, 9, usize::MAX]), r.pick(&[0, 1, 0xABCD, 0xFFFF, 0x10000, u32::MAX]));
+            let mut log = Buffer::of_length(8, || r.next() as u8);
+            let mut expected = log.clone();
+            let answer = model::append(expected.list(), used, kind, a, b);
+            let number = answer.map_or_else(|refusal| (1 << 63) + refusal as u64, |used| used as u64);
+            assert_eq!((implementation.append)(log.list(), used, kind, a, b), number);
+            assert_eq!(log, expected);
+        }
+    }
+}
+
+#[test]
+fn counted_calls() {
+    for implementation in plain_c().into_iter().chain([plain_rust()]) {
+        for seed in seeds(5000) {
+            counts::compare_any_state(&mut Random::new(seed), &implementation, &mut BTreeMap::new());
+        }
+    }
+}
+
+#[test]
+fn counts_of_logs() {
+    for implementation in plain_c().into_iter().chain([plain_rust()]) {
+        for seed in seeds(2000) {
+            let mut r = Random::new(seed);
+            let most = r.pick(&[0, 1, 10, 50, 200, 1000]);
+            let mut log = logs::random_log(&mut r, most);
+            for _ in 0..4 {
+                let _ = counts::compare_count(&mut r, &implementation, &log);
+                logs::damage(&mut r, &mut log);
             }
         }
     }

@@ -4,9 +4,9 @@ use dfb::{Refusal, RefusedAt};
 const REFUSALS: [(Refusal, u8, &str); 22] = [
     (Refusal::UnknownCommand, 1, "the command ID is outside 0x30 to 0x36"),
     (Refusal::WrongLength, 2, "a list has a wrong length, an output is too small, or a place or number does not fit"),
-    (Refusal::UnsoundState, 3, "the state is not one that the board or the slots can have left"),
+    (Refusal::UnsoundState, 3, "the state is not one that the board, the slots or the counting writer can have left"),
     (Refusal::UnknownApid, 4, "the APID is none of the seven, or 0x4E where a waveform's is wanted"),
-    (Refusal::IncompleteSet, 5, "the set is not complete"),
+    (Refusal::IncompleteSet, 5, "the words are not exactly one set"),
     (Refusal::NoProcessorEnabled, 6, "a SPEC word with no processor enabled"),
     (Refusal::IllegalBandCode, 7, "the band code is not legal"),
     (Refusal::SumCodeOverflow, 8, "the sum code's value is 2^64 or more"),

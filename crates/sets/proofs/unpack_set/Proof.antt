@@ -1,5 +1,5 @@
 -- `sets::unpack_set` meets its contract: the tests pick the case of `unpackSized`. Assumes nothing.
-use Prim.Native.Nat.{_*_}
+use Prim.Native.Nat.{ℕ, _*_}
 use mathlib.Core.Path.{_≡_, sym, ap, _∙_}
 use mathlib.Core.List.{List}
 use mathlib.Core.Bool.{true, false}
@@ -11,6 +11,7 @@ use lib.IntN.{ℤ}
 use lib.ListN.{length}
 use Rattle.refusal.specs.Outcome.{given}
 use Rattle.sets.specs.Sets.{everyApid}
+use Rattle.sets.proofs.Laws.{whole-words}
 use Rattle.sets.proofs.unpack_set.Statement.{statement}
 use Rattle.sets.proofs.unpack_set.Tie as tie
 
@@ -32,7 +33,8 @@ returns-3 c =
     let a = c .before .before .before .before .before .args in
     let even : eqb (length (a .bytes .now)) (3 * a .words) ≡ true = eq-eqb _ _ (c .before .before .before .if1 .left) in
     let room : leb (a .words) (length (a .samples .now)) ≡ true = le-leb _ _ (c .before .before .if2 .left) in
-    let other : everyApid (a .apid) (a .words) (a .bytes .now) ≡ false = sym (c .before .every-apid .ensures) ∙ not-true _ (c .if3 .taken) in
+    let other : everyApid (a .apid) (a .words) (a .bytes .now) ≡ false =
+    ap (λ (n : ℕ). everyApid (a .apid) n (a .bytes .now)) (sym (whole-words (a .bytes .now) (a .words) (c .before .before .before .if1 .left))) ∙ sym (c .before .every-apid .ensures) ∙ not-true _ (c .if3 .taken) in
     simp (even, room, other)
 
 returns-4 : tie.Need-returns-4
@@ -40,7 +42,8 @@ returns-4 c =
     let a = c .before .before .before .before .before .before .before .before .args in
     let even : eqb (length (a .bytes .now)) (3 * a .words) ≡ true = eq-eqb _ _ (c .before .before .before .before .before .before .if1 .left) in
     let room : leb (a .words) (length (a .samples .now)) ≡ true = le-leb _ _ (c .before .before .before .before .before .if2 .left) in
-    let whole : everyApid (a .apid) (a .words) (a .bytes .now) ≡ true = sym (c .before .before .before .before .every-apid .ensures) ∙ not-false _ (c .before .before .before .if3 .left) in
+    let whole : everyApid (a .apid) (a .words) (a .bytes .now) ≡ true =
+    ap (λ (n : ℕ). everyApid (a .apid) n (a .bytes .now)) (sym (whole-words (a .bytes .now) (a .words) (c .before .before .before .before .before .before .if1 .left))) ∙ sym (c .before .before .before .before .every-apid .ensures) ∙ not-false _ (c .before .before .before .if3 .left) in
     simp (even, room, whole) (ap (λ (l : List ℤ). record { answer = given (a .words); buffer = l }) (c .before .put-samples .ensures))
 
 pub unpack-set-spec : {M : Type 1} → statement M
