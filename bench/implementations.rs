@@ -27,6 +27,8 @@ pub struct Implementation {
     pub check_commands: fn(&[u8], &mut [u16]) -> u64,
     pub counted: Counted,
     pub count_sets: fn(&[u8], &mut [u64], &mut [u16]) -> u64,
+    pub snapshot_read: fn(&[u8], &mut [u32], &mut [i16]) -> u32,
+    pub snapshot_write: fn(&[u32], &[i16], &mut [u8]) -> u32,
 }
 
 /// An implementation over the C functions of a module.
@@ -80,6 +82,14 @@ macro_rules! over_c {
                 let (counts, counts_len, registers, registers_len) =
                     (counts.as_mut_ptr(), counts.len(), registers.as_mut_ptr(), registers.len());
                 $module::count_sets(log.as_ptr(), log.len(), counts, counts_len, registers, registers_len)
+            },
+            snapshot_read: |packet, header, samples| unsafe {
+                let (header, header_len, samples, samples_len) = (header.as_mut_ptr(), header.len(), samples.as_mut_ptr(), samples.len());
+                $module::snapshot_read(packet.as_ptr(), packet.len(), header, header_len, samples, samples_len)
+            },
+            snapshot_write: |header, samples, packet| unsafe {
+                let (header, header_len, samples, samples_len) = (header.as_ptr(), header.len(), samples.as_ptr(), samples.len());
+                $module::snapshot_write(header, header_len, samples, samples_len, packet.as_mut_ptr(), packet.len())
             },
         }
     };
@@ -179,6 +189,24 @@ macro_rules! declare {
                     registers: *mut u16,
                     registers_len: usize,
                 ) -> u64;
+                #[link_name = concat!($prefix, "snapshot_read")]
+                pub fn snapshot_read(
+                    packet: *const u8,
+                    packet_len: usize,
+                    header: *mut u32,
+                    header_len: usize,
+                    samples: *mut i16,
+                    samples_len: usize,
+                ) -> u32;
+                #[link_name = concat!($prefix, "snapshot_write")]
+                pub fn snapshot_write(
+                    header: *const u32,
+                    header_len: usize,
+                    samples: *const i16,
+                    samples_len: usize,
+                    packet: *mut u8,
+                    packet_len: usize,
+                ) -> u32;
                 #[link_name = concat!($prefix, "sum")]
                 pub fn sum(powers: *const u32, powers_len: usize) -> u64;
             }
@@ -196,7 +224,8 @@ mod library {
     pub use dfb::ffi::{
         dfb_append as append, dfb_check_commands as check_commands, dfb_coarse_totals as coarse_totals, dfb_count_sets as count_sets,
         dfb_counted_command as counted_command, dfb_counted_mark as counted_mark, dfb_counted_report as counted_report,
-        dfb_counted_set as counted_set, dfb_counted_tick as counted_tick, dfb_listing as listing, dfb_pack as pack, dfb_tick as tick,
+        dfb_counted_set as counted_set, dfb_counted_tick as counted_tick, dfb_listing as listing, dfb_pack as pack,
+        dfb_snapshot_read as snapshot_read, dfb_snapshot_write as snapshot_write, dfb_tick as tick,
     };
 }
 
@@ -233,6 +262,8 @@ pub fn plain_rust() -> Implementation {
         check_commands: plain_rust::check_commands,
         counted: plain_rust::counted,
         count_sets: plain_rust::count_sets,
+        snapshot_read: plain_rust::snapshot_read,
+        snapshot_write: plain_rust::snapshot_write,
     }
 }
 

@@ -2,11 +2,12 @@
  *
  * Every function with external linkage is proved: for every input, refused ones too, its answer and the later contents of every list are
  * those of the rules (AUDIT.md). The inline functions take answers apart and give lengths; they are tested against the proved ones.
- * HANDBOOK.md has the rules for people: registers and their fields, reports, bands, words, the log, command lists, counted logs, bursts, and
- * a remedy for each refusal.
+ * HANDBOOK.md has the rules for people: registers and their fields, reports, bands, words, the log, command lists, counted logs, bursts,
+ * snapshots, and a remedy for each refusal.
  *
  * A call ends in an answer or in a refusal, which has a number (enum dfb_refusal_number). A refused call changes nothing: the state and every
- * list are as they were. Nothing has to be checked before a call; lists of any length may be passed, and a wrong length is refused by 2.
+ * list are as they were. Nothing has to be checked before a call; lists of any length may be passed, and a wrong length is refused by 2, that
+ * of a snapshot's packet by 16.
  * The refusals of a function are named in the order in which they are given. In an output longer than needed, all behind the part written
  * stays as it was.
  *
@@ -29,9 +30,9 @@
 
 /* The minor number rises with every function that is added or changed, the patch number with a ticket that adds and changes none; the
  * soname of libdfb.so is libdfb.so.MAJOR. */
-#define DFB_VERSION "0.9.0"
+#define DFB_VERSION "0.10.0"
 #define DFB_VERSION_MAJOR 0
-#define DFB_VERSION_MINOR 9
+#define DFB_VERSION_MINOR 10
 #define DFB_VERSION_PATCH 0
 
 #ifdef __cplusplus
@@ -54,6 +55,9 @@ enum dfb_refusal_number {
     DFB_REFUSAL_TRUNCATED_BODY = 10,       /* the log ends within a record */
     DFB_REFUSAL_INPUT_TOO_LONG = 11,       /* the log is over 65,536 bytes */
     DFB_REFUSAL_OUT_OF_RANGE = 12,         /* a bin setting, band, FFT bin or NCAD choice is out of range, or a target is not 36 or 64 bands */
+    DFB_REFUSAL_UNKNOWN_PACKET = 14,       /* the packet's SID is not 33 or its auxiliary length is not 8 */
+    DFB_REFUSAL_PACKET_OUT_OF_RANGE = 15,  /* the total of packets is over 3072, or the packet number is not below the total */
+    DFB_REFUSAL_WRONG_PACKET_LENGTH = 16,  /* the packet is under 20 bytes, or its bytes or samples are not as many as its mask says */
     DFB_REFUSAL_KIND_NOT_IN_PROFILE = 18,  /* the record is neither a command nor a second mark */
     DFB_REFUSAL_SECOND_FALLS = 19,         /* the second is smaller than that of the mark before it */
     DFB_REFUSAL_VALUE_ALTERED = 20,        /* the register would store another value than the one sent */
@@ -82,6 +86,9 @@ static inline const char *dfb_meaning(unsigned refusal)
     case DFB_REFUSAL_TRUNCATED_BODY: return "the log ends within a record";
     case DFB_REFUSAL_INPUT_TOO_LONG: return "the log is over 65,536 bytes";
     case DFB_REFUSAL_OUT_OF_RANGE: return "a bin setting, band, FFT bin or NCAD choice is out of range, or a target is not 36 or 64 bands";
+    case DFB_REFUSAL_UNKNOWN_PACKET: return "the packet's SID is not 33 or its auxiliary length is not 8";
+    case DFB_REFUSAL_PACKET_OUT_OF_RANGE: return "the total of packets is over 3072, or the packet number is not below the total";
+    case DFB_REFUSAL_WRONG_PACKET_LENGTH: return "the packet is under 20 bytes, or its bytes or samples are not as many as its mask says";
     case DFB_REFUSAL_KIND_NOT_IN_PROFILE: return "the record is neither a command nor a second mark";
     case DFB_REFUSAL_SECOND_FALLS: return "the second is smaller than that of the mark before it";
     case DFB_REFUSAL_VALUE_ALTERED: return "the register would store another value than the one sent";
@@ -433,6 +440,53 @@ static inline unsigned dfb_interval_last(uint64_t answer)
 {
     return (unsigned)(answer >> 16 & 0xFFFFu);
 }
+
+/* ---- snapshots of the other analyser ---- */
+
+/* A packet of a regular snapshot of the LFR (TM_LF_RSWF): 20 bytes, then 128 samples for each one bit of its component mask, every number
+ * with the high byte first. Its header is a list of ten numbers, at these places. */
+#define DFB_SNAPSHOT_HEADER 10
+
+enum dfb_snapshot_field {
+    DFB_SNAPSHOT_COARSE_DIFFERENCE = 0, /* 16 bits */
+    DFB_SNAPSHOT_FINE_TIME = 1,         /* 16 bits */
+    DFB_SNAPSHOT_SEQUENCE = 2,          /* 16 bits */
+    DFB_SNAPSHOT_SWITCHES_8 = 3,        /* 32 bits, those at byte 8 */
+    DFB_SNAPSHOT_SWITCHES_12 = 4,       /* 8 bits, those at byte 12 */
+    DFB_SNAPSHOT_COMPONENT_MASK = 5,    /* 8 bits */
+    DFB_SNAPSHOT_TOTAL_PACKETS = 6,     /* 16 bits, 1 to 3072 */
+    DFB_SNAPSHOT_ARTEFACTS = 7,         /* 8 bits */
+    DFB_SNAPSHOT_SNAPSHOT_NUMBER = 8,   /* 8 bits */
+    DFB_SNAPSHOT_PACKET_NUMBER = 9      /* 16 bits, from 0, below the total */
+};
+
+/* No packet has more samples, and none more bytes. */
+#define DFB_MOST_SNAPSHOT_SAMPLES 1024
+#define DFB_MOST_SNAPSHOT_BYTES 2068
+
+/* The samples of a packet by its component mask, and its bytes. */
+static inline size_t dfb_snapshot_samples(uint8_t component_mask)
+{
+    size_t samples = 0;
+    for (; component_mask != 0; component_mask = (uint8_t)(component_mask >> 1))
+        samples += 128 * (size_t)(component_mask & 1);
+    return samples;
+}
+
+static inline size_t dfb_snapshot_bytes(uint8_t component_mask)
+{
+    return 20 + 2 * dfb_snapshot_samples(component_mask);
+}
+
+/* Reads one packet: how many samples were written, in the order of the packet, with its header in header[0..10]; or refusal 16 where packet_len
+ * is under 20, 14 where the SID is not 33 or the auxiliary length not 8, 15 where the total is over 3072 or the packet number not below the
+ * total, 16 where packet_len is not what the mask says, then 2 where header_len is under 10 or samples_len under the number of samples. */
+uint32_t dfb_snapshot_read(const uint8_t *packet, size_t packet_len, uint32_t *header, size_t header_len, int16_t *samples, size_t samples_len);
+
+/* Writes one packet: how many bytes were written; or refusal 2 where header_len is not 10 or a number does not fit its bits, 15 as above, 16
+ * where samples_len is not what the mask says, then 2 where packet_len is under dfb_snapshot_bytes(component_mask). */
+uint32_t dfb_snapshot_write(const uint32_t *header, size_t header_len, const int16_t *samples, size_t samples_len, uint8_t *packet,
+                            size_t packet_len);
 
 #ifdef __cplusplus
 }

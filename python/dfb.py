@@ -9,13 +9,14 @@ import ctypes
 import os
 import typing
 
-__version__ = "0.9.0"
+__version__ = "0.10.0"
 
 STATE, TOTALS, POWERS, OUTPUT = 9, 784, 7168, 1176
 RECORD, MOST_WORDS = 3, 7
 REGISTERS = 7
 COUNTS = 7
 FINE_TOTALS, MOST_TOTAL = 112, 1 << 49
+SNAPSHOT_HEADER, MOST_SNAPSHOT_SAMPLES, MOST_SNAPSHOT_BYTES = 10, 1024, 2068
 END, COMMAND, WORD, SECOND_MARK, TICK = 0, 1, 2, 3, 4
 FREE, HELD, SENDING = 0, 1, 2
 
@@ -32,6 +33,9 @@ MEANINGS = {
     10: "the log ends within a record",
     11: "the log is over 65,536 bytes",
     12: "a bin setting, band, FFT bin or NCAD choice is out of range, or a target is not 36 or 64 bands",
+    14: "the packet's SID is not 33 or its auxiliary length is not 8",
+    15: "the total of packets is over 3072, or the packet number is not below the total",
+    16: "the packet is under 20 bytes, or its bytes or samples are not as many as its mask says",
     18: "the record is neither a command nor a second mark",
     19: "the second is smaller than that of the mark before it",
     20: "the register would store another value than the one sent",
@@ -105,6 +109,8 @@ for _name, _answer, _arguments in (
     ("burst_choose", U32, _list(U8) + _list(U32)),
     ("burst_finish", U32, _list(U8) + _list(U32)),
     ("choose_interval", U64, _list(U32) + [U32, U32]),
+    ("snapshot_read", U32, _list(U8) + _list(U32) + _list(ctypes.c_int16)),
+    ("snapshot_write", U32, _list(U32) + _list(ctypes.c_int16) + _list(U8)),
 ):
     _function = getattr(_library, "dfb_" + _name)
     _function.restype, _function.argtypes = _answer, _arguments
@@ -393,6 +399,41 @@ def choose_interval(index, bonus, limit):
     index = _numbers("I", U32, index)
     answer = _below_63(_library.dfb_choose_interval(index, len(index), _number(bonus, 32), _number(limit, 32)))
     return answer & 0xFFFF, answer >> 16
+
+
+class SnapshotHeader(typing.NamedTuple):
+    """The header of a packet of a snapshot of the LFR, in the order of the packet; `switches_8` and `switches_12` are those at these bytes."""
+
+    coarse_difference: int
+    fine_time: int
+    sequence: int
+    switches_8: int
+    switches_12: int
+    component_mask: int
+    total_packets: int
+    artefacts: int
+    snapshot_number: int
+    packet_number: int
+
+
+class Snapshot(typing.NamedTuple):
+    """A packet of a snapshot: its SnapshotHeader, and its samples as one list in the order of the packet, 128 for each one bit of the mask."""
+
+    header: SnapshotHeader
+    samples: list
+
+
+def snapshot_read(packet):
+    """The Snapshot of one packet."""
+    packet, header, samples = _numbers("B", U8, packet), (U32 * SNAPSHOT_HEADER)(), (ctypes.c_int16 * MOST_SNAPSHOT_SAMPLES)()
+    count = _below_16(_library.dfb_snapshot_read(packet, len(packet), header, len(header), samples, len(samples)))
+    return Snapshot(SnapshotHeader(*header), samples[:count])
+
+
+def snapshot_write(header, samples):
+    """The bytes of one packet, by a SnapshotHeader and its samples. A number that fits 32 bits but not its field is refused by 2."""
+    header, samples, out = _numbers("I", U32, header), _numbers("h", ctypes.c_int16, samples), (U8 * MOST_SNAPSHOT_BYTES)()
+    return bytes(out[: _below_16(_library.dfb_snapshot_write(header, len(header), samples, len(samples), out, len(out)))])
 
 
 if __name__ == "__main__":

@@ -1137,11 +1137,302 @@ static void test_interval(void)
     CHECK(dfb_refusal_u64(answer) == 0 && dfb_interval_first(answer) == 1 && dfb_interval_last(answer) == 3);
 }
 
+/* ---- snapshots ---- */
+
+static uint8_t *packet;
+static uint32_t *header;
+static int16_t *waveform;
+static size_t packet_len, header_len, waveform_len;
+
+/* The lists of a call, of so many elements. */
+static void make_snapshot(size_t bytes, size_t numbers, size_t count)
+{
+    drop_lists();
+    packet_len = bytes, header_len = numbers, waveform_len = count;
+    packet = (uint8_t *)make_list(bytes);
+    header = (uint32_t *)make_list(numbers * sizeof *header);
+    waveform = (int16_t *)make_list(count * sizeof *waveform);
+}
+
+static uint32_t read_snapshot(void)
+{
+    return dfb_snapshot_read(packet, packet_len, header, header_len, waveform, waveform_len);
+}
+
+static uint32_t write_snapshot(void)
+{
+    return dfb_snapshot_write(header, header_len, waveform, waveform_len, packet, packet_len);
+}
+
+/* Offset and bytes of each number of a header in a packet: the table of document 000. */
+static const struct field {
+    size_t offset, bytes;
+} fields[DFB_SNAPSHOT_HEADER] = {{1, 2}, {3, 2}, {5, 2}, {8, 4}, {12, 1}, {13, 1}, {14, 2}, {16, 1}, {17, 1}, {18, 2}};
+
+/* Puts a packet of 20 bytes and so many samples, all high byte first. */
+static void put_packet(uint8_t *to, const uint32_t numbers[DFB_SNAPSHOT_HEADER], const int16_t *from, size_t count)
+{
+    to[0] = 33;
+    to[7] = 8;
+    for (size_t n = 0; n < DFB_SNAPSHOT_HEADER; n++)
+        for (size_t i = 0; i < fields[n].bytes; i++)
+            to[fields[n].offset + i] = (uint8_t)(numbers[n] >> 8 * (fields[n].bytes - 1 - i) & 0xFFu);
+    for (size_t i = 0; i < count; i++) {
+        uint16_t bits = (uint16_t)from[i];
+        to[20 + 2 * i] = (uint8_t)(bits >> 8);
+        to[20 + 2 * i + 1] = (uint8_t)(bits & 0xFFu);
+    }
+}
+
+/* A packet is read as numbers and so many samples, with lists of exactly their length and with longer ones, which keep their rest; and written
+ * from them the same way. With one element less each is refused. */
+static void reads_and_writes(const uint8_t *bytes, const uint32_t numbers[DFB_SNAPSHOT_HEADER], const int16_t *expected, size_t count)
+{
+    enum { TEN = DFB_SNAPSHOT_HEADER * sizeof(uint32_t) };
+    size_t length = 20 + 2 * count;
+    for (size_t more = 0; more < 3; more++) {
+        make_snapshot(length, DFB_SNAPSHOT_HEADER + more, count + more);
+        memcpy(packet, bytes, length);
+        remember();
+        uint32_t answer = read_snapshot();
+        CHECK(answer == count && dfb_refusal(answer) == 0 && dfb_refusal_u32(answer) == 0);
+        CHECK(memcmp(packet, bytes, length) == 0);
+        CHECK(memcmp(header, numbers, TEN) == 0 && memcmp(waveform, expected, 2 * count) == 0);
+        CHECK(memcmp((uint8_t *)header + TEN, lists[1].before + TEN, more * sizeof *header) == 0);
+        CHECK(memcmp(waveform + count, lists[2].before + 2 * count, 2 * more) == 0);
+
+        make_snapshot(length + more, DFB_SNAPSHOT_HEADER, count);
+        memcpy(header, numbers, TEN);
+        memcpy(waveform, expected, 2 * count);
+        ACCEPTED_32(length, packet, length, write_snapshot());
+        CHECK(memcmp(packet, bytes, length) == 0);
+    }
+    make_snapshot(length, DFB_SNAPSHOT_HEADER - 1, count);
+    memcpy(packet, bytes, length);
+    REFUSED_32(2u, read_snapshot());
+    if (count > 0) {
+        make_snapshot(length, DFB_SNAPSHOT_HEADER, count - 1);
+        memcpy(packet, bytes, length);
+        REFUSED_32(2u, read_snapshot());
+    }
+    make_snapshot(length - 1, DFB_SNAPSHOT_HEADER, count);
+    memcpy(header, numbers, TEN);
+    memcpy(waveform, expected, 2 * count);
+    REFUSED_32(2u, write_snapshot());
+}
+
+/* Packets, numbers and samples by hand. */
+static void test_snapshots(void)
+{
+    static const uint32_t none[DFB_SNAPSHOT_HEADER] = {0x0102, 0x0304, 0x0506, 0x0708090A, 0x0B, 0x00, 3072, 0x0D, 0x0E, 3071};
+    static const uint32_t least[DFB_SNAPSHOT_HEADER] = {0, 0, 0, 0, 0, 0, 1, 0, 0, 0};
+    static const uint32_t most[DFB_SNAPSHOT_HEADER] = {65535, 65535, 65535, 4294967295u, 255, 0x80, 3072, 255, 255, 255};
+    static const int16_t eight[8] = {1, -1, -32768, 32767, 256, -256, 0, 0x1234};
+    uint8_t bytes[20 + 2 * 128];
+    int16_t expected[128] = {0};
+    CHECK(DFB_SNAPSHOT_HEADER == 10 && DFB_MOST_SNAPSHOT_SAMPLES == 1024 && DFB_MOST_SNAPSHOT_BYTES == 2068);
+    CHECK(DFB_SNAPSHOT_SWITCHES_8 == 3 && DFB_SNAPSHOT_COMPONENT_MASK == 5 && DFB_SNAPSHOT_PACKET_NUMBER == 9);
+    put_digits(bytes, "21" "0102" "0304" "0506" "08" "0708090A" "0B" "00" "0C00" "0D" "0E" "0BFF");
+    reads_and_writes(bytes, none, expected, 0);
+    put_digits(bytes, "21" "0000" "0000" "0000" "08" "00000000" "00" "00" "0001" "00" "00" "0000");
+    reads_and_writes(bytes, least, expected, 0);
+    put_digits(bytes, "21" "FFFF" "FFFF" "FFFF" "08" "FFFFFFFF" "FF" "80" "0C00" "FF" "FF" "00FF");
+    for (size_t i = 0; i < 128; i++)
+        expected[i] = eight[i % 8];
+    for (size_t i = 0; i < 16; i++)
+        put_digits(bytes + 20 + 16 * i, "0001" "FFFF" "8000" "7FFF" "0100" "FF00" "0000" "1234");
+    reads_and_writes(bytes, most, expected, 128);
+}
+
+/* Every mask; the samples differ. */
+static void test_snapshot_masks(void)
+{
+    static const uint8_t ones_of_four[16] = {0, 1, 1, 2, 1, 2, 2, 3, 1, 2, 2, 3, 2, 3, 3, 4};
+    static uint8_t bytes[DFB_MOST_SNAPSHOT_BYTES];
+    static int16_t expected[DFB_MOST_SNAPSHOT_SAMPLES];
+    for (size_t i = 0; i < DFB_MOST_SNAPSHOT_SAMPLES; i++)
+        expected[i] = (int16_t)((int)(i * 40503u % 65536u) - 32768);
+    for (uint32_t mask = 0; mask < 256; mask++) {
+        uint32_t numbers[DFB_SNAPSHOT_HEADER] = {mask, 65535 - mask, 257 * mask, 0x89ABCDEF, 3, mask, 3072 - mask, 255 - mask, mask, 2 * mask};
+        size_t count = (size_t)128 * (size_t)(ones_of_four[mask >> 4] + ones_of_four[mask & 15]);
+        CHECK(dfb_snapshot_samples((uint8_t)mask) == count && dfb_snapshot_bytes((uint8_t)mask) == 20 + 2 * count);
+        put_packet(bytes, numbers, expected, count);
+        reads_and_writes(bytes, numbers, expected, count);
+        /* one sample and one byte less and more, for reader and writer */
+        for (size_t other = count == 0 ? 1 : count - 1; other <= count + 1; other += 2) {
+            make_snapshot(DFB_MOST_SNAPSHOT_BYTES, DFB_SNAPSHOT_HEADER, other);
+            memcpy(header, numbers, sizeof numbers);
+            REFUSED_32(16u, write_snapshot());
+            make_snapshot(20 + 2 * count + other - count, DFB_SNAPSHOT_HEADER, DFB_MOST_SNAPSHOT_SAMPLES);
+            memcpy(packet, bytes, 20);
+            REFUSED_32(16u, read_snapshot());
+        }
+    }
+}
+
+#define GOOD_SAMPLES ((size_t)128)
+#define GOOD_BYTES (20 + 2 * GOOD_SAMPLES)
+
+/* Lists of so many elements, with as much as fits of a packet that is accepted, of one component, number 1 of 2. */
+static void make_good_snapshot(size_t bytes, size_t numbers, size_t count)
+{
+    static const uint32_t good[DFB_SNAPSHOT_HEADER] = {1, 2, 3, 4, 5, 0x40, 2, 6, 7, 1};
+    uint8_t whole[GOOD_BYTES] = {0};
+    make_snapshot(bytes, numbers, count);
+    put_packet(whole, good, waveform, count < GOOD_SAMPLES ? count : GOOD_SAMPLES);
+    memcpy(packet, whole, bytes < sizeof whole ? bytes : sizeof whole);
+    memcpy(header, good, numbers < DFB_SNAPSHOT_HEADER ? numbers * sizeof *header : sizeof good);
+}
+
+/* Each number of a header: its greatest value is taken, and one more is refused. */
+static void test_snapshot_fields(void)
+{
+    static const uint32_t greatest[DFB_SNAPSHOT_HEADER] = {65535, 65535, 65535, 4294967295u, 255, 255, 65535, 255, 255, 65535};
+    for (size_t n = 0; n < DFB_SNAPSHOT_HEADER; n++) {
+        make_good_snapshot(GOOD_BYTES, DFB_SNAPSHOT_HEADER, GOOD_SAMPLES);
+        uint32_t good = header[n];
+        header[n] = greatest[n];
+        if (n == DFB_SNAPSHOT_COMPONENT_MASK) { /* its samples are 1024 */
+            REFUSED_32(16u, write_snapshot());
+        } else if (n == DFB_SNAPSHOT_TOTAL_PACKETS || n == DFB_SNAPSHOT_PACKET_NUMBER) {
+            REFUSED_32(15u, write_snapshot());
+        } else {
+            ACCEPTED_32(GOOD_BYTES, packet, GOOD_BYTES, write_snapshot());
+            for (size_t i = 0; i < fields[n].bytes; i++)
+                CHECK(packet[fields[n].offset + i] == 0xFF);
+            header[n] = good;
+            CHECK(read_snapshot() == GOOD_SAMPLES && header[n] == greatest[n]);
+        }
+        if (n == DFB_SNAPSHOT_SWITCHES_8)
+            continue;
+        const uint32_t over[3] = {greatest[n] + 1, greatest[n] + 1 + good, 4294967295u};
+        for (size_t i = 0; i < 3; i++) {
+            header[n] = over[i];
+            REFUSED_32(2u, write_snapshot());
+        }
+    }
+}
+
+/* The total of packets and the packet number; the SID and the auxiliary length. */
+static void test_snapshot_limits(void)
+{
+    static const uint32_t taken[][2] = {{1, 0}, {2, 0}, {2, 1}, {256, 255}, {3071, 3070}, {3072, 0}, {3072, 3071}};
+    static const uint32_t refused[][2] = {{0, 0}, {0, 1}, {0, 65535}, {1, 1}, {1, 256}, {2, 2}, {2, 3}, {256, 256}, {3072, 3072}, {3072, 3073},
+                                          {3073, 0}, {3073, 3072}, {3328, 0}, {65535, 65534}, {65535, 65535}};
+    enum { TAKEN = sizeof taken / sizeof *taken, ALL = TAKEN + sizeof refused / sizeof *refused };
+    for (size_t i = 0; i < ALL; i++) {
+        const uint32_t *range = i < TAKEN ? taken[i] : refused[i - TAKEN];
+        make_good_snapshot(GOOD_BYTES, DFB_SNAPSHOT_HEADER, GOOD_SAMPLES);
+        header[DFB_SNAPSHOT_TOTAL_PACKETS] = range[0];
+        header[DFB_SNAPSHOT_PACKET_NUMBER] = range[1];
+        put_packet(packet, header, waveform, GOOD_SAMPLES);
+        if (i < TAKEN) { /* and each call leaves the bytes and numbers that are there */
+            ACCEPTED_32(GOOD_BYTES, NULL, 0, write_snapshot());
+            ACCEPTED_32(GOOD_SAMPLES, NULL, 0, read_snapshot());
+        } else {
+            REFUSED_32(15u, write_snapshot());
+            REFUSED_32(15u, read_snapshot());
+        }
+    }
+    for (unsigned byte = 0; byte < 256; byte++)
+        for (size_t offset = 0; offset <= 7; offset += 7) {
+            make_good_snapshot(GOOD_BYTES, DFB_SNAPSHOT_HEADER, GOOD_SAMPLES);
+            packet[offset] = (uint8_t)byte;
+            if (byte == (offset == 0 ? 33 : 8))
+                ACCEPTED_32(GOOD_SAMPLES, NULL, 0, read_snapshot());
+            else
+                REFUSED_32(14u, read_snapshot());
+        }
+}
+
+/* Every choice of faults at once gives the refusal that is first in order. */
+static void test_snapshot_read_refused(void)
+{
+    enum { SHORT = 1, SID = 2, AUXILIARY = 4, TOTAL = 8, NUMBER = 16, FEWER = 32, MORE = 64, NUMBERS = 128, SAMPLES = 256, ALL = 512 };
+    for (unsigned made = 1; made < ALL; made++) {
+        size_t length = made & SHORT ? 19 : made & FEWER ? GOOD_BYTES - 1 : made & MORE ? GOOD_BYTES + 1 : GOOD_BYTES;
+        make_good_snapshot(length, made & NUMBERS ? 9 : 10, made & SAMPLES ? GOOD_SAMPLES - 1 : GOOD_SAMPLES);
+        if (made & SID)
+            packet[0] = 34;
+        if (made & AUXILIARY)
+            packet[7] = 0;
+        if (made & TOTAL)
+            packet[14] = 0x0C; /* 3074 */
+        if (made & NUMBER)
+            packet[18] = 0x0C; /* 3073 */
+        unsigned refusal = made & SHORT ? 16 : made & (SID | AUXILIARY) ? 14 : made & (TOTAL | NUMBER) ? 15 : made & (FEWER | MORE) ? 16 : 2;
+        REFUSED_32(refusal, read_snapshot());
+    }
+    for (size_t length = 0; length < GOOD_BYTES; length++) {
+        make_good_snapshot(length, 10, GOOD_SAMPLES);
+        REFUSED_32(16u, read_snapshot());
+    }
+    for (size_t length = 0; length < 10; length++) {
+        make_good_snapshot(GOOD_BYTES, length, GOOD_SAMPLES);
+        REFUSED_32(2u, read_snapshot());
+    }
+    for (size_t length = 0; length < GOOD_SAMPLES; length++) {
+        make_good_snapshot(GOOD_BYTES, 10, length);
+        REFUSED_32(2u, read_snapshot());
+    }
+    make_good_snapshot(GOOD_BYTES, 10, GOOD_SAMPLES);
+    REFUSED_32(16u, dfb_snapshot_read(NULL, 0, header, 10, waveform, GOOD_SAMPLES));
+    REFUSED_32(16u, dfb_snapshot_read(NULL, 0, NULL, 0, NULL, 0));
+    REFUSED_32(2u, dfb_snapshot_read(packet, GOOD_BYTES, NULL, 0, waveform, GOOD_SAMPLES));
+    REFUSED_32(2u, dfb_snapshot_read(packet, GOOD_BYTES, header, 10, NULL, 0));
+    packet[13] = 0; /* no component */
+    REFUSED_32(2u, dfb_snapshot_read(packet, 20, NULL, 0, NULL, 0));
+    ACCEPTED_32(0u, header, 10 * sizeof *header, dfb_snapshot_read(packet, 20, header, 10, NULL, 0));
+    CHECK(header[DFB_SNAPSHOT_COMPONENT_MASK] == 0);
+}
+
+static void test_snapshot_write_refused(void)
+{
+    enum { NINE = 1, ELEVEN = 2, WIDE = 4, TOTAL = 8, NUMBER = 16, FEWER = 32, MORE = 64, BYTES = 128, ALL = 256 };
+    for (unsigned made = 1; made < ALL; made++) {
+        size_t numbers = made & NINE ? 9 : made & ELEVEN ? 11 : 10;
+        size_t count = made & FEWER ? GOOD_SAMPLES - 1 : made & MORE ? GOOD_SAMPLES + 1 : GOOD_SAMPLES;
+        make_good_snapshot(made & BYTES ? GOOD_BYTES - 1 : GOOD_BYTES, numbers, count);
+        if (made & WIDE)
+            header[DFB_SNAPSHOT_ARTEFACTS] = 256;
+        if (made & TOTAL)
+            header[DFB_SNAPSHOT_TOTAL_PACKETS] = 3073;
+        if (made & NUMBER && numbers > 9)
+            header[DFB_SNAPSHOT_PACKET_NUMBER] = 3073;
+        unsigned refusal = made & (NINE | ELEVEN | WIDE) ? 2 : made & (TOTAL | NUMBER) ? 15 : made & (FEWER | MORE) ? 16 : 2;
+        REFUSED_32(refusal, write_snapshot());
+    }
+    for (size_t length = 0; length < GOOD_BYTES; length++) {
+        make_good_snapshot(length, 10, GOOD_SAMPLES);
+        REFUSED_32(2u, write_snapshot());
+    }
+    for (size_t length = 0; length < 13; length++)
+        if (length != 10) {
+            make_good_snapshot(GOOD_BYTES, length, GOOD_SAMPLES);
+            REFUSED_32(2u, write_snapshot());
+        }
+    for (size_t length = 0; length < 2 * GOOD_SAMPLES + 1; length++)
+        if (length != GOOD_SAMPLES) {
+            make_good_snapshot(GOOD_BYTES, 10, length);
+            REFUSED_32(16u, write_snapshot());
+        }
+    make_good_snapshot(GOOD_BYTES, 10, GOOD_SAMPLES);
+    REFUSED_32(2u, dfb_snapshot_write(NULL, 0, waveform, GOOD_SAMPLES, packet, GOOD_BYTES));
+    REFUSED_32(2u, dfb_snapshot_write(NULL, 0, NULL, 0, NULL, 0));
+    REFUSED_32(16u, dfb_snapshot_write(header, 10, NULL, 0, packet, GOOD_BYTES));
+    REFUSED_32(2u, dfb_snapshot_write(header, 10, waveform, GOOD_SAMPLES, NULL, 0));
+    header[DFB_SNAPSHOT_COMPONENT_MASK] = 0;
+    REFUSED_32(16u, dfb_snapshot_write(header, 10, waveform, 1, packet, GOOD_BYTES));
+    REFUSED_32(2u, dfb_snapshot_write(header, 10, NULL, 0, NULL, 0));
+    ACCEPTED_32(20u, packet, 20, dfb_snapshot_write(header, 10, NULL, 0, packet, GOOD_BYTES));
+    CHECK(packet[13] == 0);
+}
+
 /* ---- the header by itself ---- */
 
 static void test_meanings(void)
 {
-    static const uint8_t numbers[] = {1, 2, 3, 4, 5, 6, 7, 8, 9, 10, 11, 12, 18, 19, 20, 21, 24, 25, 26, 27, 28, 29};
+    static const uint8_t numbers[] = {1, 2, 3, 4, 5, 6, 7, 8, 9, 10, 11, 12, 14, 15, 16, 18, 19, 20, 21, 24, 25, 26, 27, 28, 29};
     size_t found = 0;
     for (unsigned n = 0; n < 0x20000; n++) {
         int is_refusal = found < sizeof numbers && numbers[found] == n;
@@ -1149,6 +1440,9 @@ static void test_meanings(void)
         found += (size_t)is_refusal;
     }
     CHECK(strcmp(dfb_meaning(DFB_REFUSAL_ALREADY_SENDING), "a slot is already sending") == 0);
+    CHECK(strcmp(dfb_meaning(14), "the packet's SID is not 33 or its auxiliary length is not 8") == 0);
+    CHECK(strcmp(dfb_meaning(15), "the total of packets is over 3072, or the packet number is not below the total") == 0);
+    CHECK(strcmp(dfb_meaning(16), "the packet is under 20 bytes, or its bytes or samples are not as many as its mask says") == 0);
 }
 
 /* Answers that no function gives today are no refusals either, unless they are a base and a number. */
@@ -1257,6 +1551,12 @@ static const struct test {
     {"coarse totals", test_coarse_totals},
     {"bursts", test_bursts},
     {"interval", test_interval},
+    {"snapshots", test_snapshots},
+    {"snapshot masks", test_snapshot_masks},
+    {"snapshot fields", test_snapshot_fields},
+    {"snapshot limits", test_snapshot_limits},
+    {"snapshot reads refused", test_snapshot_read_refused},
+    {"snapshot writes refused", test_snapshot_write_refused},
     {"meanings", test_meanings},
     {"bases", test_bases},
     {"offsets", test_offsets},

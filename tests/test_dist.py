@@ -48,9 +48,10 @@ def output(*command, **options):
     return subprocess.run(command, capture_output=True, check=True, encoding="utf8", **options).stdout
 
 
-def example(under, *path):
-    """A document's example under the line that starts so and ends in a colon."""
-    block = re.search(r"^%s\b.*:\n\n((?:    .*\n)+)" % under, read(*path), re.MULTILINE).group(1)
+def example(under, *path, after=""):
+    """A document's example under the line that starts so and ends in a colon, the first from the text `after` on."""
+    text = read(*path)
+    block = re.search(r"^%s\b.*:\n\n((?:    .*\n)+)" % under, text[text.index(after):], re.MULTILINE).group(1)
     return re.sub("^    ", "", block, flags=re.MULTILINE)
 
 
@@ -84,12 +85,12 @@ class Dist(Tools):
             self.assertEqual(run(program).stdout, expected)
 
     def run_as_written(self, language, name, *path):
-        """Runs a document's example by the command beside it, in a folder that has dist/; what the program then prints."""
-        command = re.search(r"^%s \(`(.*)`\):$" % language, read(*path), re.MULTILINE).group(1)
+        """Runs a document's example by the command beside it, which has its name, in a folder that has dist/; what the program then prints."""
+        command = re.search(r"^%s \(`(.*\b%s\b.*)`\):$" % (language, re.escape(name)), read(*path), re.MULTILINE).group(1)
         with tempfile.TemporaryDirectory() as folder:
             os.symlink(DIST, os.path.join(folder, "dist"))
             with open(os.path.join(folder, name), "w", encoding="utf8") as file:
-                file.write(example(language, *path))
+                file.write(example(language, *path, after="%s (`%s`)" % (language, command)))
             environment = {**os.environ, "PKG_CONFIG_PATH": DIST, "LD_LIBRARY_PATH": DIST}
             printed = output("bash", "-c", command, cwd=folder, env=environment)
             program = os.path.join(folder, os.path.splitext(name)[0])
@@ -112,7 +113,9 @@ class Dist(Tools):
         self.compile_and_run("cc", C99, example("C", "docs", "HANDBOOK.md"), example("It prints", "docs", "HANDBOOK.md"))
 
     def test_handbook_python(self):
-        self.assertEqual(self.run_as_written("Python", "counted.py", "docs", "HANDBOOK.md"), example("It shows", "docs", "HANDBOOK.md"))
+        for name in ("counted.py", "snapshot.py"):
+            shown = example("It shows", "docs", "HANDBOOK.md", after=name)
+            self.assertEqual(self.run_as_written("Python", name, "docs", "HANDBOOK.md"), shown)
 
     def test_handbook_beside_the_header(self):
         """What is to be tried can be tried in dist/."""

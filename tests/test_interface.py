@@ -1,6 +1,6 @@
 """The interface is declared four times: by the Rattle sources, include/dfb.h, Rust's ffi and Python's table. These tests read all four and
 compare every exported function (name, number, order, names and types of parameters, constness, type of the answer), every constant of the
-header and every refusal with its meaning. Wrong edits of each are tried, and must be found."""
+header, every refusal with its meaning, and the numbers of a snapshot's header. Wrong edits of each are tried, and must be found."""
 import ctypes
 import os
 import re
@@ -13,6 +13,9 @@ from c_program import C99, DIST, TOP, build, run
 
 # 01, "Words and sets".
 APIDS = {"E_SVY": 0x43, "V_SVY": 0x44, "MAG_SVY": 0x45, "E_B1": 0x46, "V_B1": 0x47, "SCM_B1": 0x48, "SPEC": 0x4E}
+# The numbers of a snapshot's header that have a shorter name in the Rattle sources.
+SNAPSHOT_NAMES = {"coarse": "coarse_difference", "fine": "fine_time", "switches8": "switches_8", "switches12": "switches_12",
+                  "mask": "component_mask", "total": "total_packets", "snapshot": "snapshot_number", "number": "packet_number"}
 
 
 def read(*path):
@@ -22,8 +25,8 @@ def read(*path):
 
 def sources():
     """The text of each declaration."""
-    crates = "refusal registers words log model listing bursts interval coarse counts dfb_refusals"
-    crates += " dfb_board dfb_log dfb_bands dfb_bursts dfb_interval dfb_coarse dfb_checker dfb_counts"
+    crates = "refusal registers words log model listing bursts interval coarse counts snapshot dfb_refusals"
+    crates += " dfb_board dfb_log dfb_bands dfb_bursts dfb_interval dfb_coarse dfb_checker dfb_counts dfb_snapshot"
     texts = {crate: read("crates", crate, "src", "lib.rt") for crate in crates.split()}
     texts.update(header=read("include", "dfb.h"), rust=read("rust", "src", "lib.rs"), python=read("python", "dfb.py"))
     texts.update(cargo=read("rust", "Cargo.toml"))
@@ -190,6 +193,12 @@ def rattle_constants(texts):
     constants["DFB_MOST_SLOTS"] = rattle_constant(texts["bursts"], "MOST_SLOTS")
     constants.update({"DFB_SLOT_" + name: rattle_constant(texts["dfb_bursts"], name) for name in ("FREE", "HELD", "SENDING")})
     constants["DFB_MOST_BLOCKS"] = rattle_constant(texts["interval"], "MOST_BLOCKS")
+    places = re.findall(r"header\[(\d+)\] = from\.(\w+)", texts["dfb_snapshot"])
+    constants.update({"DFB_SNAPSHOT_" + SNAPSHOT_NAMES.get(name, name).upper(): int(place) for place, name in places})
+    constants["DFB_SNAPSHOT_HEADER"] = rattle_constant(texts["dfb_snapshot"], "HEADER")
+    samples = 8 * number(one(r"(\d+) \* u8::count_ones\(mask\)", texts["snapshot"]))
+    constants["DFB_MOST_SNAPSHOT_SAMPLES"] = samples
+    constants["DFB_MOST_SNAPSHOT_BYTES"] = rattle_constant(texts["snapshot"], "HEADER") + 2 * samples
     return constants
 
 
@@ -217,6 +226,7 @@ def constant_differences(texts, module):
     expected = {**rattle_constants(texts), **version_constants(texts["header"])}
     differences = compare("header", header_constants(texts["header"]), expected)
     names = {"STATE", "TOTALS", "POWERS", "OUTPUT", "RECORD", "MOST_WORDS", "REGISTERS", "COUNTS", "FINE_TOTALS", "MOST_TOTAL"}
+    names |= {"SNAPSHOT_HEADER", "MOST_SNAPSHOT_SAMPLES", "MOST_SNAPSHOT_BYTES"}
     python = {name: expected["DFB_" + name] for name in names}
     python.update({name: expected["DFB_KIND_" + name] for name in ("END", "COMMAND", "WORD", "SECOND_MARK", "TICK")})
     python.update({name: expected["DFB_SLOT_" + name] for name in ("FREE", "HELD", "SENDING")})
@@ -241,6 +251,23 @@ def refusal_differences(texts, module):
     return differences + compare("Rust's refusals by number", of, numbers)
 
 
+def struct_fields(text, name):
+    """Names and types of the fields of a struct, in order."""
+    return re.findall(r"pub (\w+): (\w+),", one(r"(?s)pub struct %s \{(.*?)\n\}" % name, text))
+
+
+def snapshot_differences(texts, module):
+    """Of the numbers of a snapshot's header: their order, and their bits, which the header names but where a rule has a limit."""
+    fields = [(SNAPSHOT_NAMES.get(name, name), kind) for name, kind in struct_fields(texts["snapshot"], "Header")]
+    bits = dict(re.findall(r"DFB_SNAPSHOT_(\w+) = \d+,?\s*/\* (\d+) bits", texts["header"]))
+    found = {"Rust": struct_fields(texts["rust"], "SnapshotHeader"), "Python": list(module.SnapshotHeader._fields), "bits": bits}
+    expected = {"Rust": fields, "Python": [name for name, _ in fields]}
+    expected["bits"] = {name.upper(): kind[1:] for name, kind in fields}
+    places = {"DFB_SNAPSHOT_" + name.upper(): place for place, (name, _) in enumerate(fields)}
+    constants = header_constants(texts["header"])
+    return compare("snapshot", found, expected) + compare("places", {name: constants.get(name) for name in places}, places)
+
+
 def version_differences(texts, module):
     version = one(r'#define DFB_VERSION "(.*)"', texts["header"])
     found = {"Python": module.__version__, "Cargo.toml": one(r'(?m)^version = "(.*)"$', texts["cargo"])}
@@ -250,7 +277,7 @@ def version_differences(texts, module):
 def differences(texts):
     module = python_module(texts["python"])
     module.text = texts["python"]
-    comparisons = (name_differences, function_differences, constant_differences, refusal_differences, version_differences)
+    comparisons = (name_differences, function_differences, constant_differences, refusal_differences, snapshot_differences, version_differences)
     return [line for comparison in comparisons for line in comparison(texts, module)]
 
 
@@ -297,6 +324,21 @@ WRONG_EDITS = [
     ("header", "size_t registers_len, const uint8_t *words", "size_t registers_len, uint8_t *words"),
     ("header", "dfb_count_sets(const uint8_t *log, size_t log_len, uint64_t *counts",
      "dfb_count_sets(const uint8_t *log, size_t log_len, const uint64_t *counts"),
+    ("header", "#define DFB_SNAPSHOT_HEADER 10", "#define DFB_SNAPSHOT_HEADER 11"),
+    ("header", "#define DFB_MOST_SNAPSHOT_SAMPLES 1024", "#define DFB_MOST_SNAPSHOT_SAMPLES 1023"),
+    ("header", "#define DFB_MOST_SNAPSHOT_BYTES 2068", "#define DFB_MOST_SNAPSHOT_BYTES 2052"),
+    ("header", "DFB_SNAPSHOT_SWITCHES_12 = 4,", "DFB_SNAPSHOT_SWITCHES_12 = 3,"),
+    ("header", "DFB_SNAPSHOT_ARTEFACTS = 7,", "DFB_SNAPSHOT_ARTEFACTS = 8,"),
+    ("header", "/* 32 bits, those at byte 8 */", "/* 16 bits, those at byte 8 */"),
+    ("header", "DFB_REFUSAL_PACKET_OUT_OF_RANGE = 15", "DFB_REFUSAL_PACKET_OUT_OF_RANGE = 17"),
+    ("header", "or its auxiliary length is not 8 */", "or its auxiliary length is not 0 */"),
+    ("header", 'return "the packet is under 20 bytes', 'return "the packet is under 21 bytes'),
+    ("header", "uint32_t dfb_snapshot_read(const uint8_t *packet", "uint32_t dfb_snapshot_read(uint8_t *packet"),
+    ("header", "size_t packet_len, uint32_t *header", "size_t packet_len, uint16_t *header"),
+    ("header", "size_t header_len, int16_t *samples", "size_t header_len, const int16_t *samples"),
+    ("header", "uint32_t dfb_snapshot_write(", "uint64_t dfb_snapshot_write("),
+    ("header", "const uint32_t *header, size_t header_len, const int16_t *samples, size_t samples_len",
+     "const int16_t *samples, size_t samples_len, const uint32_t *header, size_t header_len"),
     ("header", "#define DFB_TOTALS 784", "#define DFB_TOTALS 784\n#define DFB_MORE (1u << 3)"),
     ("header", "uint8_t dfb_compress_band(uint32_t value);", "uint8_t dfb_compress_band(uint32_t value);\nextern int dfb_more (void);"),
     ("rust", "pub fn dfb_compress_band(value: u32) -> u8;", "pub fn dfb_compress_band(value: u32) -> u8; pub fn dfb_more(value: u8);"),
@@ -316,6 +358,12 @@ WRONG_EDITS = [
     ("rust", "apid: u8,\n            samples: *const i16", "apid: u8,\n            samples: *mut i16"),
     ("rust", "words: *const u8,", "words: *const u16,"),
     ("rust", "pub fn dfb_count_sets(\n            log: *const u8", "pub fn dfb_count_sets(\n            log: *mut u8"),
+    ("rust", "pub const MOST_SNAPSHOT_SAMPLES: usize = 1024", "pub const MOST_SNAPSHOT_SAMPLES: usize = 1023"),
+    ("rust", "pub fn dfb_snapshot_read(\n            packet: *const u8", "pub fn dfb_snapshot_read(\n            packet: *mut u8"),
+    ("rust", "header: *const u32,", "header: *const u16,"),
+    ("rust", "    pub switches_12: u8,", "    pub switches_12: u16,"),
+    ("rust", "UnknownPacket = 14,", "UnknownPacket = 13,"),
+    ("rust", "16 => Refusal::WrongPacketLength", "17 => Refusal::WrongPacketLength"),
     ("rust", "ValueAltered = 20,", "ValueAltered = 21,"),
     ("rust", "19 => Refusal::SecondFalls", "21 => Refusal::SecondFalls"),
     ("rust", '"a slot is already sending"', '"a slot is sending"'),
@@ -333,6 +381,11 @@ WRONG_EDITS = [
     ("python", '("counted_report", U64, _counted + _list(U8))', '("counted_report", U64, _counted + _list(U16))'),
     ("python", '("count_sets", U64, _list(U8) + _list(U64) + _list(U16))', '("count_sets", U64, _list(U8) + _list(U16) + _list(U64))'),
     ("python", '20: "the register would store another value', '20: "the register would store the value'),
+    ("python", '("snapshot_read", U32, _list(U8) + _list(U32)', '("snapshot_read", U32, _list(U32) + _list(U8)'),
+    ("python", '("snapshot_write", U32, _list(U32) + _list(ctypes.c_int16)', '("snapshot_write", U32, _list(U32) + _list(U16)'),
+    ("python", "MOST_SNAPSHOT_BYTES = 10, 1024, 2068", "MOST_SNAPSHOT_BYTES = 10, 1024, 2052"),
+    ("python", "    total_packets: int\n    artefacts: int\n", "    artefacts: int\n    total_packets: int\n"),
+    ("python", '15: "the total of packets is over 3072', '15: "the total of packets is over 3073'),
     ("python", '("compress_band", U8, [U32])', '("compress_band", U8, [ctypes.c_int32])'),
     ("python", '("command", U32, _list(U16) + _list(U64)', '("command", U32, _list(U64) + _list(U16)'),
     ("python", "SECOND_MARK, TICK = 0, 1, 2, 3, 4", "TICK, SECOND_MARK = 0, 1, 2, 3, 4"),
@@ -367,6 +420,9 @@ WRONG_INLINE = [
     ("6 * log_len + 64", "6 * log_len + 63"),
     ("? 64 : 6", "? 63 : 6"),
     ("case 1: return 64;", "case 1: return 63;"),
+    ("128 * (size_t)(component_mask & 1)", "128 * (size_t)(component_mask & 3)"),
+    ("(uint8_t)(component_mask >> 1)", "(uint8_t)(component_mask >> 2)"),
+    ("return 20 + 2 * dfb_snapshot_samples", "return 16 + 2 * dfb_snapshot_samples"),
 ]
 
 

@@ -13,6 +13,7 @@ sys.path.insert(0, os.path.join(TOP, "tools", "cases"))
 
 import dfb  # noqa: E402
 import counts_model  # noqa: E402
+import snapshot_model  # noqa: E402
 from checklist_model import Bad, check, command, mark, random_list  # noqa: E402
 from listing_model import random_log  # noqa: E402
 
@@ -320,6 +321,63 @@ class Python(unittest.TestCase):
         self.refused(29, dfb.choose_interval, [1], 0, 0)
         self.refused(26, dfb.choose_interval, [0, 0], 0, 1)
 
+    def test_snapshots(self):
+        header = dfb.SnapshotHeader(0x0102, 0x0304, 0x0506, 0x0708090A, 0x0B, 0, 3072, 0x0D, 0x0E, 3071)
+        packet = bytes.fromhex("21 0102 0304 0506 08 0708090A 0B 00 0C00 0D 0E 0BFF")
+        self.assertEqual(dfb.snapshot_write(header, []), packet)
+        self.assertEqual(dfb.snapshot_read(packet), dfb.Snapshot(header, []))
+        self.assertEqual(dfb.snapshot_read(bytearray(packet)).header.packet_number, 3071)
+        samples = [1, -1, -32768, 32767] * 256
+        full = header._replace(component_mask=0xFF)
+        written = dfb.snapshot_write(tuple(full), samples)
+        self.assertEqual(written, packet[:13] + b"\xFF" + packet[14:] + bytes.fromhex("0001 FFFF 8000 7FFF") * 256)
+        self.assertEqual(dfb.snapshot_read(written), (full, samples))
+        self.assertEqual((len(written), len(samples)), (dfb.MOST_SNAPSHOT_BYTES, dfb.MOST_SNAPSHOT_SAMPLES))
+
+        self.refused(16, dfb.snapshot_read, packet[:19])
+        self.refused(16, dfb.snapshot_read, b"")
+        self.refused(14, dfb.snapshot_read, b"\x22" + packet[1:])
+        self.refused(14, dfb.snapshot_read, packet[:7] + b"\0" + packet[8:])
+        self.refused(15, dfb.snapshot_read, packet[:15] + b"\1" + packet[16:])  # a total of 3073
+        self.refused(15, dfb.snapshot_read, packet[:18] + b"\x0C\0")
+        self.refused(16, dfb.snapshot_read, packet + b"\0")
+        self.refused(16, dfb.snapshot_read, written[:-1])
+        self.refused(15, dfb.snapshot_write, header._replace(total_packets=3073), [])
+        self.refused(15, dfb.snapshot_write, header._replace(packet_number=3072), [0])
+        self.refused(15, dfb.snapshot_write, header._replace(total_packets=0, packet_number=0), [])
+        self.refused(16, dfb.snapshot_write, header, [0])
+        self.refused(16, dfb.snapshot_write, full, samples[1:])
+        self.refused(16, dfb.snapshot_write, full, samples + [0])
+        # 2: not ten numbers, or one that does not fit its field
+        self.refused(2, dfb.snapshot_write, header[:9], [])
+        self.refused(2, dfb.snapshot_write, header + (0,), [])
+        self.refused(2, dfb.snapshot_write, (), [])
+        for place, bits in enumerate((16, 16, 16, 32, 8, 8, 16, 8, 8, 16)):
+            if bits < 32:
+                self.refused(2, dfb.snapshot_write, header[:place] + (2**bits,) + header[place + 1:], [])
+
+    def test_random_snapshots(self):
+        r = random.Random(14)
+        for _ in range(1500):
+            packet = snapshot_model.random_packet(r)
+            for data in (packet, snapshot_model.damaged(r, packet)):
+                try:
+                    expected = snapshot_model.read(data)
+                except snapshot_model.Refused as refused:
+                    self.refused(refused.number, dfb.snapshot_read, data)
+                else:
+                    self.assertEqual(dfb.snapshot_read(data), expected)
+            header, samples = snapshot_model.random_write(r)
+            if r.random() < 0.1:
+                place = r.randrange(len(header))
+                header = header[:place] + (r.randrange(2**32),) + header[place + 1:]
+            try:
+                expected = snapshot_model.write(header, samples)
+            except snapshot_model.Refused as refused:
+                self.refused(refused.number, dfb.snapshot_write, header, samples)
+            else:
+                self.assertEqual(dfb.snapshot_write(header, samples), expected)
+
     def test_numbers_that_do_not_fit(self):
         board, log = dfb.Board(), dfb.CountedLog(bytearray(99))
         for function, arguments in (
@@ -362,6 +420,13 @@ class Python(unittest.TestCase):
             (dfb.BurstSlots(1).offer, (2**32,)),
             (dfb.choose_interval, ([2**32], 0, 1)),
             (dfb.choose_interval, ([1], 0, 2**32)),
+            (dfb.snapshot_read, ([256] * 20,)),
+            (dfb.snapshot_read, ([-1] * 20,)),
+            (dfb.snapshot_write, ([2**32] + [1] * 9, [])),
+            (dfb.snapshot_write, ([0] * 6 + [1, 0, 0, -1], [])),
+            (dfb.snapshot_write, ([0] * 6 + [1, 0, 0, 2**32], [])),
+            (dfb.snapshot_write, ([0, 0, 0, 0, 0, 1, 1, 0, 0, 0], [32768] * 128)),
+            (dfb.snapshot_write, ([0, 0, 0, 0, 0, 1, 1, 0, 0, 0], [-32769] * 128)),
         ):
             self.assertRaises(OverflowError, function, *arguments)
         self.assertEqual(bytes(board.state), bytes(2 * dfb.STATE))

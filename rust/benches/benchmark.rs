@@ -1,6 +1,7 @@
-//! Nanoseconds of tick, coarse totals, listing, check of a command list, pack, and a day's log with counts, without them, and counted by the
-//! walk: the proved library beside plain C and plain Rust, which make the same checks, in one run on the same inputs. Each figure is the best
-//! of many rounds (DFB_ROUNDS, 60 unless set; a third of them for the day's log). Before a row is timed, all must agree.
+//! Nanoseconds of tick, coarse totals, listing, check of a command list, pack, snapshot packets read and written, and a day's log with counts,
+//! without them, and counted by the walk: the proved library beside plain C and plain Rust, which make the same checks, in one run on the same
+//! inputs. Each figure is the best of many rounds (DFB_ROUNDS, 60 unless set; a third of them for the day's log). Before a row is timed, all
+//! must agree.
 #[path = "../../bench/implementations.rs"]
 mod implementations;
 #[path = "../tests/differential/model.rs"]
@@ -22,6 +23,7 @@ const LISTINGS: usize = 4;
 const CHECKS: usize = 4;
 const PACKS: usize = 4000;
 const CONVERSIONS: usize = 4000;
+const PACKETS: usize = 1000;
 
 /// Spectra that the ticks take in turn.
 struct Spectra(Vec<Vec<u32>>);
@@ -213,6 +215,38 @@ impl Bench {
         self.row("pack of 7 samples", &best, false);
     }
 
+    /// A snapshot packet of so many components, read and written.
+    fn snapshot(&self, components: u32) {
+        let mut r = Random::new(5);
+        let (mask, count) = ((1u32 << components) - 1, 128 * components as usize);
+        let header = [1, 0x8000, 7, 0x0102_0304, 5, mask, 3072, 0, 9, 3071];
+        let samples: Vec<i16> = (0..count).map(|_| r.next() as i16).collect();
+        let mut results = vec![];
+        for implementation in &self.implementations {
+            let (mut packet, mut numbers, mut again) = (vec![0; 20 + 2 * count], [0; dfb::SNAPSHOT_HEADER], vec![0; count]);
+            let answers = (
+                (implementation.snapshot_write)(&header, &samples, &mut packet),
+                (implementation.snapshot_read)(&packet, &mut numbers, &mut again),
+            );
+            assert!(answers == (packet.len() as u32, count as u32) && numbers == header && again == samples, "a packet is read as another");
+            results.push(packet);
+        }
+        assert!(results.iter().all(|result| *result == results[0]), "snapshot packets: the implementations differ");
+
+        let best = self.best(|implementation| {
+            let (mut numbers, mut again) = ([0; dfb::SNAPSHOT_HEADER], vec![0; count]);
+            let mut read = || (implementation.snapshot_read)(black_box(&results[0]), black_box(&mut numbers), black_box(&mut again)) as u64;
+            nanoseconds(PACKETS, || (0..PACKETS).map(|_| read()).sum())
+        });
+        self.row(&format!("snapshot packet of {components} components, read"), &best, false);
+        let best = self.best(|implementation| {
+            let mut packet = vec![0; 20 + 2 * count];
+            let mut write = || (implementation.snapshot_write)(black_box(&header), black_box(&samples), black_box(&mut packet)) as u64;
+            nanoseconds(PACKETS, || (0..PACKETS).map(|_| write()).sum())
+        });
+        self.row(&format!("snapshot packet of {components} components, written"), &best, false);
+    }
+
     /// A day's log, written with counts, written by append one record at a time, and counted by the walk.
     fn day(&self, day: &Day) {
         let (rounds, mut log) = (self.rounds.div_ceil(3), vec![0; Day::BYTES]);
@@ -390,6 +424,7 @@ fn main() {
     bench.listing("112 bands", &repeated(&[1, 0x30, 0x00, 0xA0], &spec_words(&mut r, 56)));
     bench.check_commands(&command_list(&mut r));
     bench.pack();
+    [8, 0].into_iter().for_each(|components| bench.snapshot(components));
     bench.day(&Day::new(&mut r));
     println!("interval of 16,000 criteria: {:.1} ns", interval(rounds));
 

@@ -34,6 +34,13 @@ pub const FINE_TOTALS: usize = 112;
 /// The greatest total that it takes: 2^49.
 pub const MOST_TOTAL: u64 = 0x2_0000_0000_0000;
 
+/// The length of the header of a snapshot packet, as a list of numbers.
+pub const SNAPSHOT_HEADER: usize = 10;
+/// No snapshot packet has more samples.
+pub const MOST_SNAPSHOT_SAMPLES: usize = 1024;
+/// No snapshot packet has more bytes.
+pub const MOST_SNAPSHOT_BYTES: usize = 2068;
+
 /// A refusal, with its number in the rules. 13 is not used.
 #[derive(Clone, Copy, Debug, PartialEq, Eq)]
 #[repr(u8)]
@@ -50,6 +57,9 @@ pub enum Refusal {
     TruncatedBody = 10,
     InputTooLong = 11,
     OutOfRange = 12,
+    UnknownPacket = 14,
+    PacketOutOfRange = 15,
+    WrongPacketLength = 16,
     KindNotInProfile = 18,
     SecondFalls = 19,
     ValueAltered = 20,
@@ -83,6 +93,9 @@ impl Refusal {
             Refusal::TruncatedBody => "the log ends within a record",
             Refusal::InputTooLong => "the log is over 65,536 bytes",
             Refusal::OutOfRange => "a bin setting, band, FFT bin or NCAD choice is out of range, or a target is not 36 or 64 bands",
+            Refusal::UnknownPacket => "the packet's SID is not 33 or its auxiliary length is not 8",
+            Refusal::PacketOutOfRange => "the total of packets is over 3072, or the packet number is not below the total",
+            Refusal::WrongPacketLength => "the packet is under 20 bytes, or its bytes or samples are not as many as its mask says",
             Refusal::KindNotInProfile => "the record is neither a command nor a second mark",
             Refusal::SecondFalls => "the second is smaller than that of the mark before it",
             Refusal::ValueAltered => "the register would store another value than the one sent",
@@ -110,6 +123,9 @@ impl Refusal {
             10 => Refusal::TruncatedBody,
             11 => Refusal::InputTooLong,
             12 => Refusal::OutOfRange,
+            14 => Refusal::UnknownPacket,
+            15 => Refusal::PacketOutOfRange,
+            16 => Refusal::WrongPacketLength,
             18 => Refusal::KindNotInProfile,
             19 => Refusal::SecondFalls,
             20 => Refusal::ValueAltered,
@@ -186,6 +202,66 @@ pub enum Offer {
     TurnedAway {
         looked: usize,
     },
+}
+
+/// The header of a snapshot packet.
+#[derive(Clone, Copy, Debug, PartialEq, Eq)]
+pub struct SnapshotHeader {
+    pub coarse_difference: u16,
+    pub fine_time: u16,
+    pub sequence: u16,
+    /// The switches at byte 8.
+    pub switches_8: u32,
+    /// Those at byte 12.
+    pub switches_12: u8,
+    /// The packet has 128 samples for each one bit.
+    pub component_mask: u8,
+    /// 1 to 3072.
+    pub total_packets: u16,
+    pub artefacts: u8,
+    pub snapshot_number: u8,
+    /// From 0, below the total.
+    pub packet_number: u16,
+}
+
+/// The ten numbers in the order of the fields.
+impl From<SnapshotHeader> for [u32; SNAPSHOT_HEADER] {
+    fn from(header: SnapshotHeader) -> [u32; SNAPSHOT_HEADER] {
+        [
+            header.coarse_difference.into(),
+            header.fine_time.into(),
+            header.sequence.into(),
+            header.switches_8,
+            header.switches_12.into(),
+            header.component_mask.into(),
+            header.total_packets.into(),
+            header.artefacts.into(),
+            header.snapshot_number.into(),
+            header.packet_number.into(),
+        ]
+    }
+}
+
+/// The header of ten numbers. Refusal 2 where one does not fit its field.
+impl TryFrom<[u32; SNAPSHOT_HEADER]> for SnapshotHeader {
+    type Error = Refusal;
+
+    fn try_from(numbers: [u32; SNAPSHOT_HEADER]) -> Result<SnapshotHeader, Refusal> {
+        let eight = |place: usize| u8::try_from(numbers[place]).map_err(|_| Refusal::WrongLength);
+        let sixteen = |place: usize| u16::try_from(numbers[place]).map_err(|_| Refusal::WrongLength);
+        Ok(SnapshotHeader {
+            coarse_difference: sixteen(0)?,
+            fine_time: sixteen(1)?,
+            sequence: sixteen(2)?,
+            switches_8: numbers[3],
+            switches_12: eight(4)?,
+            component_mask: eight(5)?,
+            total_packets: sixteen(6)?,
+            artefacts: eight(7)?,
+            snapshot_number: eight(8)?,
+            packet_number: sixteen(9)?,
+        })
+    }
 }
 
 /// The functions of libdfb.a as C declares them.
@@ -282,6 +358,22 @@ pub mod ffi {
         pub fn dfb_burst_choose(status: *mut u8, status_len: usize, criteria: *mut u32, criteria_len: usize) -> u32;
         pub fn dfb_burst_finish(status: *mut u8, status_len: usize, criteria: *mut u32, criteria_len: usize) -> u32;
         pub fn dfb_choose_interval(index: *const u32, index_len: usize, bonus: u32, limit: u32) -> u64;
+        pub fn dfb_snapshot_read(
+            packet: *const u8,
+            packet_len: usize,
+            header: *mut u32,
+            header_len: usize,
+            samples: *mut i16,
+            samples_len: usize,
+        ) -> u32;
+        pub fn dfb_snapshot_write(
+            header: *const u32,
+            header_len: usize,
+            samples: *const i16,
+            samples_len: usize,
+            packet: *mut u8,
+            packet_len: usize,
+        ) -> u32;
     }
 }
 
@@ -721,4 +813,54 @@ pub fn choose_interval(index: &[u32], bonus: u32, limit: u32) -> Result<(usize, 
     // SAFETY: as in command.
     let number = unsafe { ffi::dfb_choose_interval(index.as_ptr(), index.len(), bonus, limit) };
     answer(number, REFUSED_63).map(|ends| ((ends & 0xFFFF) as usize, (ends >> 16) as usize))
+}
+
+/// Reads one packet of an LFR snapshot (TM_LF_RSWF): its header, and how many samples were written, in the order of the packet. Refusals 16
+/// for a packet under 20 bytes, 14, 15, 16 for a length that is not what the mask says, then 2 where `samples` are fewer.
+pub fn snapshot_read(packet: &[u8], samples: &mut [i16]) -> Result<(SnapshotHeader, usize), Refusal> {
+    let mut numbers = [0; SNAPSHOT_HEADER];
+    // SAFETY: as in command.
+    let number = unsafe {
+        ffi::dfb_snapshot_read(packet.as_ptr(), packet.len(), numbers.as_mut_ptr(), numbers.len(), samples.as_mut_ptr(), samples.len())
+    };
+    let count = answer(number.into(), REFUSED_16)?;
+    let header = numbers.try_into().unwrap_or_else(|_| panic!("libdfb gave {numbers:?}, which is no header of a snapshot packet"));
+    Ok((header, count as usize))
+}
+
+/// Writes one packet of an LFR snapshot: how many bytes were written. Refusals 15, 16 for a number of samples that is not what the mask says,
+/// then 2 where `packet` is shorter.
+///
+/// ```
+/// let header = dfb::SnapshotHeader {
+///     coarse_difference: 1,
+///     fine_time: 0x8000,
+///     sequence: 7,
+///     switches_8: 0x0102_0304,
+///     switches_12: 5,
+///     component_mask: 0x81, // two components
+///     total_packets: 3,
+///     artefacts: 0,
+///     snapshot_number: 9,
+///     packet_number: 2,
+/// };
+/// let mut packet = [0; dfb::MOST_SNAPSHOT_BYTES];
+/// let bytes = dfb::snapshot_write(&header, &[-2; 256], &mut packet)?;
+/// assert_eq!(bytes, 20 + 2 * 256);
+/// assert_eq!(packet[..8], [33, 0, 1, 0x80, 0, 0, 7, 8]);
+/// assert_eq!(packet[18..22], [0, 2, 0xFF, 0xFE]);
+///
+/// let mut samples = [0; dfb::MOST_SNAPSHOT_SAMPLES];
+/// assert_eq!(dfb::snapshot_read(&packet[..bytes], &mut samples)?, (header, 256));
+/// assert_eq!(samples[..256], [-2; 256]);
+/// assert_eq!(dfb::snapshot_read(&packet, &mut samples), Err(dfb::Refusal::WrongPacketLength));
+/// # Ok::<(), dfb::Refusal>(())
+/// ```
+pub fn snapshot_write(header: &SnapshotHeader, samples: &[i16], packet: &mut [u8]) -> Result<usize, Refusal> {
+    let numbers: [u32; SNAPSHOT_HEADER] = (*header).into();
+    // SAFETY: as in command.
+    let number = unsafe {
+        ffi::dfb_snapshot_write(numbers.as_ptr(), numbers.len(), samples.as_ptr(), samples.len(), packet.as_mut_ptr(), packet.len())
+    };
+    answer(number.into(), REFUSED_16).map(|bytes| bytes as usize)
 }

@@ -1,5 +1,5 @@
 -- The round trips, for every set. Assumes nothing.
-use Prim.Native.Nat.{ℕ, zero, suc, _+_, _*_, _/_, _%_, _<_}
+use Prim.Native.Nat.{ℕ, zero, suc, _+_, _*_, _/_, _%_}
 use mathlib.Core.Path.{_≡_, refl, ap, _∙_}
 use mathlib.Core.Bool.{true}
 use mathlib.Core.List.{List, [], _∷_}
@@ -9,24 +9,17 @@ use lib.Dec.{eqb, leb}
 use lib.IntN.{ℤ}
 use lib.ListN.{length, take}
 use lib.Seq.{take-at}
-use lib.Signed.{mag}
-use mir.Syntax.{w16}
-use mir.Val.{ofZ, toZ}
-use mir.ValLaws.{toZ-ofZ, ofZ-toZ}
 use Rattle.lists.proofs.Choices.{by-cases, both}
 use Rattle.refusal.specs.Outcome.{Outcome, given, refused}
 use Rattle.refusal.proofs.Outcomes.{refused-given}
-use Rattle.words.specs.Sample.{bitsOf, sampleOf}
-use Rattle.words.specs.Words.{setSize}
+use Rattle.words.specs.Sample.{bitsOf, sampleOf, Are16}
+use Rattle.words.specs.Words.{setSize, AreBytes}
 use Rattle.sets.specs.Sets.{packedBytes, packFits, packSized, packOutcome, everyApid, samplesOf, unpackFits, unpackSized, unpackOutcome}
-use Rattle.sets.specs.Claims.{Are16, AreBytes, RoundTrip, ConverseRoundTrip}
-use Rattle.words.proofs.Signed.{bits-are, sample-is}
+use Rattle.sets.specs.Claims.{RoundTrip, ConverseRoundTrip}
+use Rattle.words.proofs.Signed.{sample-of-bits, bits-of-sample}
 use Rattle.sets.proofs.Laws.{packed-length, samples-length}
 
--- a sample of its 16 bits, and the samples of their words, come back
-pub sample-of-bits : (z : ℤ) → mag z < 32768 → sampleOf (bitsOf z) ≡ z
-sample-of-bits z h = ap sampleOf (bits-are z) ∙ sample-is (ofZ w16 z) ∙ toZ-ofZ w16 z (record { sfits = h })
-
+-- the samples of their words come back
 pub samples-packed : (apid : ℕ) (zs : List ℤ) → Are16 zs → samplesOf (length zs) (packedBytes apid zs) ≡ zs
 unfolding samplesOf packedBytes
 samples-packed apid [] f = refl
@@ -39,10 +32,7 @@ unfolding everyApid packedBytes
 every-packed apid [] = refl
 every-packed apid (z ∷ zs) = simp (eq-eqb apid apid refl, every-packed apid zs)
 
--- 16 bits of a sample, and the bytes of the words, come back
-pub bits-of-sample : (b : ℕ) → b < 65536 → bitsOf (sampleOf b) ≡ b
-bits-of-sample b h = ap bitsOf (sample-is b) ∙ bits-are (toZ w16 b) ∙ ofZ-toZ w16 b (record { fits = h })
-
+-- the bytes of the words come back
 pub packed-samples : (apid n : ℕ) (bytes : List ℕ) → AreBytes bytes → length bytes ≡ 3 * n → everyApid apid n bytes ≡ true → packedBytes apid (samplesOf n bytes) ≡ bytes
 unfolding samplesOf packedBytes everyApid
 packed-samples apid zero [] f l e = refl

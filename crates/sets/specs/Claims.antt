@@ -1,24 +1,15 @@
 -- 01, "Words and sets": what packing wrote is unpacked to the same samples, and what unpacking wrote is packed to the same bytes; of every set.
 -- Assumes nothing.
-use Prim.Native.Nat.{ℕ, _≤_, _<_}
+use Prim.Native.Nat.{ℕ, _≤_}
 use mathlib.Core.Path.{_≡_}
-use mathlib.Core.List.{List, [], _∷_}
+use mathlib.Core.List.{List}
 use lib.IntN.{ℤ}
 use lib.ListN.{length, take}
-use lib.Signed.{mag}
 use Rattle.lists.specs.Tables.{overwrite}
 use Rattle.refusal.specs.Outcome.{given}
+use Rattle.words.specs.Sample.{Are16}
+use Rattle.words.specs.Words.{AreBytes}
 use Rattle.sets.specs.Sets.{packOutcome, unpackOutcome}
-
--- samples that 16 bits hold, from -32768 to 32767, as every list of `i16` has them: `mag` of n is n, and of -(n + 1) it is n
-abbrev pub Are16 : List ℤ → Type 0
-Are16 [] = Unit {0}
-Are16 (z ∷ zs) = (mag z < 32768) × Are16 zs
-
--- bytes, as every list of `u8` is
-abbrev pub AreBytes : List ℕ → Type 0
-AreBytes [] = Unit {0}
-AreBytes (b ∷ bs) = (b < 256) × AreBytes bs
 
 -- unpacking the n bytes that an accepted packing answers, from the output that it left, gives the samples
 abbrev pub RoundTrip : Type 0

@@ -1,5 +1,5 @@
 -- Board words (01, "Words and sets"): an APID and 16 bits; and the words of a set.
-use Prim.Native.Nat.{ℕ, zero, suc, _+_, _*_, _/_, _%_}
+use Prim.Native.Nat.{ℕ, zero, suc, _+_, _*_, _/_, _%_, _<_}
 use mathlib.Core.Bool.{Bool, cond, _||_}
 use mathlib.Core.List.{List, [], _∷_}
 use lib.Dec.{eqb}
@@ -27,6 +27,11 @@ setSize apid =
 -- an APID that is kept: a waveform's, or SPEC, 0x4E
 abbrev pub isApid : ℕ → Bool
 isApid apid = eqb apid 0x4E || isGiven (setSize apid)
+
+-- bytes, as every list of `u8` is
+abbrev pub AreBytes : List ℕ → Type 0
+AreBytes [] = Unit {0}
+AreBytes (b ∷ bs) = (b < 256) × AreBytes bs
 
 -- 16 bits as two bytes, high byte first, and back
 abbrev pub pairBytes : ℕ → List ℕ

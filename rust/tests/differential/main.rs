@@ -14,6 +14,7 @@ mod random;
 mod readings;
 mod refusals;
 mod sets;
+mod snapshots;
 
 #[allow(dead_code)]
 #[path = "../../../bench/implementations.rs"]

@@ -1,9 +1,9 @@
-//! The plain C of the benchmark and its plain Rust tick, coarse totals, append, check of command lists and counted logs against the model,
-//! so that it compares programs that do the same.
+//! The plain C of the benchmark and its plain Rust tick, coarse totals, append, check of command lists, counted logs and snapshot packets
+//! against the model, so that it compares programs that do the same.
 use crate::implementations::{plain_c, plain_rust};
 use crate::model::{self, Board, POWERS, STATE, TOTALS};
 use crate::random::{seeds, Buffer, Random};
-use crate::{board, check, coarse, counts, logs};
+use crate::{board, check, coarse, counts, logs, snapshots};
 use std::collections::BTreeMap;
 
 /// A tick's answer as a number of include/dfb.h.
@@ -120,6 +120,22 @@ fn counts_of_logs() {
                 let _ = counts::compare_count(&mut r, &implementation, &log);
                 logs::damage(&mut r, &mut log);
             }
+        }
+    }
+}
+
+#[test]
+fn snapshot_packets() {
+    let mut r = Random::new(2);
+    for implementation in plain_c().into_iter().chain([plain_rust()]) {
+        snapshots::faulty_readings(|reading, refusal| {
+            assert_eq!(snapshots::compare_read(&mut r, &implementation, reading).err(), refusal);
+        });
+        snapshots::faulty_writings(|writing, refusal| {
+            assert_eq!(snapshots::compare_write(&mut r, &implementation, writing).err(), refusal);
+        });
+        for seed in seeds(10_000) {
+            snapshots::compare_any(&mut Random::new(seed), &implementation, &mut Default::default());
         }
     }
 }

@@ -1,7 +1,7 @@
 //! The refusals: numbers and texts, copied by hand.
 use dfb::{Refusal, RefusedAt};
 
-const REFUSALS: [(Refusal, u8, &str); 22] = [
+const REFUSALS: [(Refusal, u8, &str); 25] = [
     (Refusal::UnknownCommand, 1, "the command ID is outside 0x30 to 0x36"),
     (Refusal::WrongLength, 2, "a list has a wrong length, an output is too small, or a place or number does not fit"),
     (Refusal::UnsoundState, 3, "the state is not one that the board, the slots or the counting writer can have left"),
@@ -14,6 +14,9 @@ const REFUSALS: [(Refusal, u8, &str); 22] = [
     (Refusal::TruncatedBody, 10, "the log ends within a record"),
     (Refusal::InputTooLong, 11, "the log is over 65,536 bytes"),
     (Refusal::OutOfRange, 12, "a bin setting, band, FFT bin or NCAD choice is out of range, or a target is not 36 or 64 bands"),
+    (Refusal::UnknownPacket, 14, "the packet's SID is not 33 or its auxiliary length is not 8"),
+    (Refusal::PacketOutOfRange, 15, "the total of packets is over 3072, or the packet number is not below the total"),
+    (Refusal::WrongPacketLength, 16, "the packet is under 20 bytes, or its bytes or samples are not as many as its mask says"),
     (Refusal::KindNotInProfile, 18, "the record is neither a command nor a second mark"),
     (Refusal::SecondFalls, 19, "the second is smaller than that of the mark before it"),
     (Refusal::ValueAltered, 20, "the register would store another value than the one sent"),

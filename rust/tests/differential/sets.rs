@@ -3,7 +3,7 @@ use crate::model::{self, WAVEFORMS};
 use crate::numbered;
 use crate::random::{seeds, Buffer, Random};
 
-fn random_sample(r: &mut Random) -> i16 {
+pub fn random_sample(r: &mut Random) -> i16 {
     let any = r.next() as i16;
     r.pick(&[0, 1, -1, 255, 256, -256, i16::MAX, i16::MIN, any, any])
 }

@@ -1,0 +1,3 @@
+pub mod Headers
+pub mod Calls
+pub mod Theorems

@@ -1,0 +1,4 @@
+-- The laws that the proofs of several functions cite, and the theorems that other crates cite.
+pub mod Numbers
+pub mod Samples
+pub mod Theorems

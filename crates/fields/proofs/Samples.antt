@@ -1,0 +1,169 @@
+-- Laws of samples of two bytes each. Assumes nothing.
+use Prim.Native.Nat.{ℕ, zero, suc, _+_, _*_, _/_, _%_, _≤_, _<_}
+use mathlib.Core.Path.{_≡_, refl, sym, ap, ap₂, subst, _∙_}
+use mathlib.Core.List.{List, [], _∷_, _++_}
+use native.Mathlib.Numerals.{towards-suc}
+use native.Mathlib.Omega.{arith}
+use borrow.Author.Tests.{ltb-true, ltb-false, le-leb}
+use lib.Dec.{ltb}
+use lib.IntN.{ℤ, pos}
+use lib.ListN.{length, getD, set, take, drop, length-drop}
+use lib.Seq.{getD-append-add, getD-drop, take-at, drop-at, sets}
+use lib.Signed.{mag}
+use Rattle.lists.specs.Tables.{tabulate, concatTo, overwrite}
+use Rattle.lists.proofs.Choices.{cond-at}
+use Rattle.lists.proofs.Tables.{length-tabulate, getD-tabulate, tabulate-of, tabulate-ext, length-parts, getD-concatTo, concatTo-more, concatTo-ext, grid-of}
+use Rattle.lists.proofs.Overwriting.{front-more}
+use Rattle.words.specs.Sample.{bitsOf, sampleOf, Are16}
+use Rattle.words.specs.Words.{pairBytes, pairAt, pairOf, AreBytes}
+use Rattle.words.proofs.Signed.{sample-of-bits, bits-of-sample}
+use Rattle.fields.specs.Samples.{sampleBytes, samplesAt, putOutcome}
+use Rattle.fields.specs.Private.{reversedSample, reversedSamples, exchanged, exchangedSamples}
+use Rattle.fields.proofs.Numbers.{byte-at}
+
+-- the bytes of sample i
+abbrev pub bytesOf : List ℤ → ℕ → List ℕ
+bytesOf samples i = pairBytes (bitsOf (getD samples i (pos 0)))
+
+pub parts-length : (samples : List ℤ) (n : ℕ) → length (concatTo n (bytesOf samples)) ≡ 2 * n
+parts-length samples n = length-parts n (bytesOf samples) 2 (λ i. refl) ∙ omega arith
+
+-- the bytes of one sample more
+pub pair-more : (samples : List ℤ) (l out : List ℕ) (i bits : ℕ) → i < length samples → 2 * length samples ≤ length l →
+    out ≡ concatTo i (bytesOf samples) ++ drop (2 * i) l → bits ≡ bitsOf (getD samples i (pos 0)) →
+    set (set out (2 * i) (bits / 256)) (2 * i + 1) (bits % 256) ≡ concatTo (i + 1) (bytesOf samples) ++ drop (2 * (i + 1)) l
+pair-more samples l out i bits h room e same =
+    let done = concatTo i (bytesOf samples) in
+    let next : 2 * (i + 1) ≡ 2 * i + 2 = omega arith in
+    let stored : set (set (done ++ drop (2 * i) l) (2 * i) (bits / 256)) (2 * i + 1) (bits % 256) ≡ sets (done ++ drop (2 * i) l) (2 * i) (pairBytes bits) = simp towards-suc in
+    ap (λ (o : List ℕ). set (set o (2 * i) (bits / 256)) (2 * i + 1) (bits % 256)) e
+    ∙ stored
+    ∙ front-more done (pairBytes bits) l (2 * i) (parts-length samples i) (omega arith)
+    ∙ rw (concatTo-more (bytesOf samples) i, next, ← same)
+
+pub bytes-length : (samples : List ℤ) → length (sampleBytes samples) ≡ 2 * length samples
+unfolding sampleBytes
+bytes-length samples = parts-length samples (length samples)
+
+-- what writing samples leaves where there is room
+pub put-buffer : (samples : List ℤ) (out : List ℕ) → 2 * length samples ≤ length out → putOutcome samples out .buffer ≡ overwrite (sampleBytes samples) out
+unfolding putOutcome
+put-buffer samples out h = rw (le-leb (2 * length samples) (length out) h)
+
+pub samples-length : (n : ℕ) (bytes : List ℕ) (at : ℕ) → length (samplesAt n bytes at) ≡ n
+unfolding samplesAt
+samples-length n bytes at = length-tabulate n _
+
+-- samples whose bytes were read the other way round, and then exchanged
+exchanged-pair : (a b : ℕ) → a < 256 → b < 256 → exchanged (sampleOf (pairOf b a)) ≡ sampleOf (pairOf a b)
+exchanged-pair a b h k =
+    let bits : bitsOf (sampleOf (pairOf b a)) ≡ b * 256 + a = bits-of-sample (b * 256 + a) (omega arith) in
+    let low : bitsOf (sampleOf (pairOf b a)) % 256 ≡ a = omega (arith, bits) in
+    let high : bitsOf (sampleOf (pairOf b a)) / 256 ≡ b = omega (arith, bits) in
+    ap sampleOf (ap₂ pairOf low high)
+
+pub reversed-length : (n : ℕ) (bytes : List ℕ) → length (reversedSamples n bytes) ≡ n
+unfolding reversedSamples
+reversed-length n bytes = length-tabulate n (reversedSample bytes)
+
+pub exchanged-reversed : (n : ℕ) (bytes : List ℕ) → ((i : ℕ) → getD bytes i 0 < 256) → exchangedSamples (reversedSamples n bytes) ≡ samplesAt n bytes 0
+unfolding reversedSamples exchangedSamples samplesAt
+exchanged-reversed n bytes small =
+    ap (λ (m : ℕ). tabulate m (λ i. exchanged (getD (tabulate n (reversedSample bytes)) i (pos 0)))) (length-tabulate n (reversedSample bytes))
+    ∙ tabulate-ext n _ _
+    (λ i h. let place : 2 * i ≡ 0 + 2 * i = omega arith in
+    ap exchanged (getD-tabulate n (reversedSample bytes) (pos 0) i h)
+    ∙ exchanged-pair (getD bytes (2 * i) 0) (getD bytes (2 * i + 1) 0) (small (2 * i)) (small (2 * i + 1))
+    ∙ ap (λ (j : ℕ). sampleOf (pairAt bytes j)) place)
+
+-- the front of a list with such samples, exchanged
+pub exchanged-front : (n k : ℕ) (bytes : List ℕ) (out mid part : List ℤ) → ((i : ℕ) → getD bytes i 0 < 256) → k ≡ n →
+    mid ≡ overwrite (reversedSamples n bytes) out → part ≡ exchangedSamples (take k mid) → part ++ drop k mid ≡ overwrite (samplesAt n bytes 0) out
+exchanged-front n k bytes out mid part small e m p =
+    let front : take k mid ≡ reversedSamples n bytes = rw (e, m) (take-at (reversedSamples n bytes) _ n (reversed-length n bytes)) in
+    let rest : drop k mid ≡ drop n out = rw (e, m, drop-at (reversedSamples n bytes) _ n (reversed-length n bytes), reversed-length n bytes) in
+    ap₂ (λ (x y : List ℤ). x ++ y) (p ∙ ap exchangedSamples front ∙ exchanged-reversed n bytes small)
+    (rest ∙ ap (λ (j : ℕ). drop j out) (sym (samples-length n bytes 0)))
+
+-- samples from a place on are those of the bytes there
+pub samples-drop : (n : ℕ) (bytes : List ℕ) (at : ℕ) → samplesAt n (drop at bytes) 0 ≡ samplesAt n bytes at
+unfolding samplesAt
+samples-drop n bytes at =
+    tabulate-ext n _ _
+    (λ i h. let high : at + (0 + 2 * i) ≡ at + 2 * i = omega arith in
+    let low : at + (0 + 2 * i + 1) ≡ at + 2 * i + 1 = omega arith in
+    ap sampleOf
+    (ap₂ pairOf (getD-drop at bytes (0 + 2 * i) 0 ∙ ap (λ (j : ℕ). getD bytes j 0) high)
+    (getD-drop at bytes (0 + 2 * i + 1) 0 ∙ ap (λ (j : ℕ). getD bytes j 0) low)))
+
+-- a sample of a list has 16 bits
+sample-at : (samples : List ℤ) → Are16 samples → (i : ℕ) → i < length samples → mag (getD samples i (pos 0)) < 32768
+sample-at [] are i h = absurd (omega arith)
+sample-at (z ∷ samples) are zero h = are .0
+sample-at (z ∷ samples) are (suc i) h = sample-at samples (are .1) i (omega arith)
+
+-- byte k of sample i
+byte-of : (samples : List ℤ) (before : List ℕ) (i k : ℕ) → i < length samples → k < 2 →
+    getD (before ++ sampleBytes samples) (length before + (2 * i + k)) 0 ≡ getD (bytesOf samples i) k 0
+unfolding sampleBytes
+byte-of samples before i k h l =
+    let place : 2 * i + k ≡ length (concatTo i (bytesOf samples)) + k = omega (arith, parts-length samples i) in
+    getD-append-add before (concatTo (length samples) (bytesOf samples)) (2 * i + k) 0
+    ∙ ap (λ (j : ℕ). getD (concatTo (length samples) (bytesOf samples)) j 0) place
+    ∙ getD-concatTo (length samples) (bytesOf samples) 0 i h k l
+
+pub samples-return : (samples : List ℤ) (before : List ℕ) → Are16 samples →
+    samplesAt (length samples) (before ++ sampleBytes samples) (length before) ≡ samples
+unfolding samplesAt
+samples-return samples before are =
+    sym (tabulate-of (length samples) _ (pos 0) samples refl (λ i h. sym (at-each i h)))
+  where
+    at-each : (i : ℕ) → i < length samples → sampleOf (pairAt (before ++ sampleBytes samples) (length before + 2 * i)) ≡ getD samples i (pos 0)
+    at-each i h =
+        let bits = bitsOf (getD samples i (pos 0)) in
+        let high : length before + 2 * i ≡ length before + (2 * i + 0) = omega arith in
+        let low : length before + 2 * i + 1 ≡ length before + (2 * i + 1) = omega arith in
+        let joined : bits / 256 * 256 + bits % 256 ≡ bits = omega arith in
+        ap sampleOf
+        (ap₂ pairOf
+        (ap (λ (j : ℕ). getD (before ++ sampleBytes samples) j 0) high ∙ byte-of samples before i 0 h (omega arith))
+        (ap (λ (j : ℕ). getD (before ++ sampleBytes samples) j 0) low ∙ byte-of samples before i 1 h (omega arith))
+        ∙ joined)
+        ∙ sample-of-bits (getD samples i (pos 0)) (sample-at samples are i h)
+
+pub sample-bytes-return : (n : ℕ) (bytes : List ℕ) (at : ℕ) → AreBytes bytes → length bytes ≡ at + 2 * n →
+    sampleBytes (samplesAt n bytes at) ≡ drop at bytes
+unfolding sampleBytes samplesAt tabulate
+sample-bytes-return n bytes at are long =
+    ap (λ (m : ℕ). concatTo m (bytesOf (samplesAt n bytes at))) (samples-length n bytes at)
+    ∙ concatTo-ext n _ _ at-each
+    ∙ sym (grid-of n 2 (λ i k. getD bytes (at + (i * 2 + k)) 0) 0 (drop at bytes) (length-drop at bytes ∙ omega arith) (λ i k h l. getD-drop at bytes (i * 2 + k) 0))
+  where
+    at-each : (i : ℕ) → i < n → bytesOf (samplesAt n bytes at) i ≡ tabulate 2 (λ k. getD bytes (at + (i * 2 + k)) 0)
+    at-each i h =
+        let a = getD bytes (at + 2 * i) 0 in
+        let b = getD bytes (at + 2 * i + 1) 0 in
+        let small : b < 256 = byte-at bytes are (at + 2 * i + 1) in
+        let bits : bitsOf (getD (samplesAt n bytes at) i (pos 0)) ≡ a * 256 + b =
+        ap bitsOf (getD-tabulate n _ (pos 0) i h) ∙ bits-of-sample (a * 256 + b) (omega (arith, byte-at bytes are (at + 2 * i))) in
+        let high : (a * 256 + b) / 256 ≡ a = omega arith in
+        let low : (a * 256 + b) % 256 ≡ b = omega arith in
+        let first : at + 2 * i ≡ at + (i * 2 + 0) = omega arith in
+        let second : at + 2 * i + 1 ≡ at + (i * 2 + 1) = omega arith in
+        ap pairBytes bits ∙ ap₂ (λ (x y : ℕ). x ∷ y ∷ []) (high ∙ ap (λ (j : ℕ). getD bytes j 0) first) (low ∙ ap (λ (j : ℕ). getD bytes j 0) second)
+
+-- samples that were read have 16 bits
+sample-small : (b : ℕ) → b < 65536 → mag (sampleOf b) < 32768
+sample-small b h =
+    cond-at (λ (z : ℤ). mag z < 32768) (ltb b 32768) (λ e. ltb-true b 32768 e) (λ e. omega (arith, ltb-false b 32768 e))
+
+are-16 : (zs : List ℤ) → ((i : ℕ) → i < length zs → mag (getD zs i (pos 0)) < 32768) → Are16 zs
+are-16 [] small = tt
+are-16 (z ∷ zs) small = (small 0 (omega arith), are-16 zs (λ i h. small (suc i) (omega arith)))
+
+pub samples-16 : (n : ℕ) (bytes : List ℕ) (at : ℕ) → AreBytes bytes → Are16 (samplesAt n bytes at)
+unfolding samplesAt
+samples-16 n bytes at are =
+    are-16 (samplesAt n bytes at)
+    (λ i h. subst (λ (z : ℤ). mag z < 32768) (sym (getD-tabulate n _ (pos 0) i (omega (arith, length-tabulate n (λ j. sampleOf (pairAt bytes (at + 2 * j)))))))
+    (sample-small (pairAt bytes (at + 2 * i)) (omega (arith, byte-at bytes are (at + 2 * i), byte-at bytes are (at + 2 * i + 1)))))
