@@ -14,6 +14,9 @@ pub enum Call<'a> {
     Report(&'a [u8]),
 }
 
+/// State, totals, component, the two masks, pairs and output.
+type SumComponent = fn(&mut [u8], &mut [u64], u8, [u8; 2], &[i16], &mut [u8]) -> u32;
+
 /// Log, bytes used, counts and registers, and the call.
 type Counted = fn(&mut [u8], usize, &mut [u64], &mut [u16], Call) -> u64;
 
@@ -29,6 +32,7 @@ pub struct Implementation {
     pub count_sets: fn(&[u8], &mut [u64], &mut [u16]) -> u64,
     pub snapshot_read: fn(&[u8], &mut [u32], &mut [i16]) -> u32,
     pub snapshot_write: fn(&[u32], &[i16], &mut [u8]) -> u32,
+    pub sum_component: SumComponent,
 }
 
 /// An implementation over the C functions of a module.
@@ -90,6 +94,22 @@ macro_rules! over_c {
             snapshot_write: |header, samples, packet| unsafe {
                 let (header, header_len, samples, samples_len) = (header.as_ptr(), header.len(), samples.as_ptr(), samples.len());
                 $module::snapshot_write(header, header_len, samples, samples_len, packet.as_mut_ptr(), packet.len())
+            },
+            sum_component: |state, totals, component, [first, second], pairs, out| unsafe {
+                let (state_len, totals_len, out_len) = (state.len(), totals.len(), out.len());
+                $module::sum_component(
+                    state.as_mut_ptr(),
+                    state_len,
+                    totals.as_mut_ptr(),
+                    totals_len,
+                    component,
+                    first,
+                    second,
+                    pairs.as_ptr(),
+                    pairs.len(),
+                    out.as_mut_ptr(),
+                    out_len,
+                )
             },
         }
     };
@@ -207,6 +227,20 @@ macro_rules! declare {
                     packet: *mut u8,
                     packet_len: usize,
                 ) -> u32;
+                #[link_name = concat!($prefix, "sum_component")]
+                pub fn sum_component(
+                    state: *mut u8,
+                    state_len: usize,
+                    totals: *mut u64,
+                    totals_len: usize,
+                    component: u8,
+                    first_mask: u8,
+                    second_mask: u8,
+                    pairs: *const i16,
+                    pairs_len: usize,
+                    out: *mut u8,
+                    out_len: usize,
+                ) -> u32;
                 #[link_name = concat!($prefix, "sum")]
                 pub fn sum(powers: *const u32, powers_len: usize) -> u64;
             }
@@ -225,7 +259,7 @@ mod library {
         dfb_append as append, dfb_check_commands as check_commands, dfb_coarse_totals as coarse_totals, dfb_count_sets as count_sets,
         dfb_counted_command as counted_command, dfb_counted_mark as counted_mark, dfb_counted_report as counted_report,
         dfb_counted_set as counted_set, dfb_counted_tick as counted_tick, dfb_listing as listing, dfb_pack as pack,
-        dfb_snapshot_read as snapshot_read, dfb_snapshot_write as snapshot_write, dfb_tick as tick,
+        dfb_snapshot_read as snapshot_read, dfb_snapshot_write as snapshot_write, dfb_sum_component as sum_component, dfb_tick as tick,
     };
 }
 
@@ -264,6 +298,7 @@ pub fn plain_rust() -> Implementation {
         count_sets: plain_rust::count_sets,
         snapshot_read: plain_rust::snapshot_read,
         snapshot_write: plain_rust::snapshot_write,
+        sum_component: plain_rust::sum_component,
     }
 }
 

@@ -3,7 +3,7 @@
  * Every function with external linkage is proved: for every input, refused ones too, its answer and the later contents of every list are
  * those of the rules (AUDIT.md). The inline functions take answers apart and give lengths; they are tested against the proved ones.
  * HANDBOOK.md has the rules for people: registers and their fields, reports, bands, words, the log, command lists, counted logs, bursts,
- * snapshots, and a remedy for each refusal.
+ * snapshots, summed spectra, and a remedy for each refusal.
  *
  * A call ends in an answer or in a refusal, which has a number (enum dfb_refusal_number). A refused call changes nothing: the state and every
  * list are as they were. Nothing has to be checked before a call; lists of any length may be passed, and a wrong length is refused by 2, that
@@ -30,9 +30,9 @@
 
 /* The minor number rises with every function that is added or changed, the patch number with a ticket that adds and changes none; the
  * soname of libdfb.so is libdfb.so.MAJOR. */
-#define DFB_VERSION "0.10.0"
+#define DFB_VERSION "0.11.0"
 #define DFB_VERSION_MAJOR 0
-#define DFB_VERSION_MINOR 10
+#define DFB_VERSION_MINOR 11
 #define DFB_VERSION_PATCH 0
 
 #ifdef __cplusplus
@@ -43,31 +43,32 @@ extern "C" {
 
 /* 13 is not used. */
 enum dfb_refusal_number {
-    DFB_REFUSAL_UNKNOWN_COMMAND = 1,       /* the command ID is outside 0x30 to 0x36 */
-    DFB_REFUSAL_WRONG_LENGTH = 2,          /* a list has a wrong length, an output is too small, or a place or number does not fit */
-    DFB_REFUSAL_UNSOUND_STATE = 3,         /* the state is not one that the board, the slots or the counting writer can have left */
-    DFB_REFUSAL_UNKNOWN_APID = 4,          /* the APID is none of the seven, or 0x4E where a waveform's is wanted */
-    DFB_REFUSAL_INCOMPLETE_SET = 5,        /* the words are not exactly one set */
-    DFB_REFUSAL_NO_PROCESSOR_ENABLED = 6,  /* a SPEC word with no processor enabled */
-    DFB_REFUSAL_ILLEGAL_BAND_CODE = 7,     /* the band code is not legal */
-    DFB_REFUSAL_SUM_CODE_OVERFLOW = 8,     /* the sum code's value is 2^64 or more */
-    DFB_REFUSAL_UNKNOWN_RECORD_KIND = 9,   /* the record kind is none of 1 to 4 */
-    DFB_REFUSAL_TRUNCATED_BODY = 10,       /* the log ends within a record */
-    DFB_REFUSAL_INPUT_TOO_LONG = 11,       /* the log is over 65,536 bytes */
-    DFB_REFUSAL_OUT_OF_RANGE = 12,         /* a bin setting, band, FFT bin or NCAD choice is out of range, or a target is not 36 or 64 bands */
-    DFB_REFUSAL_UNKNOWN_PACKET = 14,       /* the packet's SID is not 33 or its auxiliary length is not 8 */
-    DFB_REFUSAL_PACKET_OUT_OF_RANGE = 15,  /* the total of packets is over 3072, or the packet number is not below the total */
-    DFB_REFUSAL_WRONG_PACKET_LENGTH = 16,  /* the packet is under 20 bytes, or its bytes or samples are not as many as its mask says */
-    DFB_REFUSAL_KIND_NOT_IN_PROFILE = 18,  /* the record is neither a command nor a second mark */
-    DFB_REFUSAL_SECOND_FALLS = 19,         /* the second is smaller than that of the mark before it */
-    DFB_REFUSAL_VALUE_ALTERED = 20,        /* the register would store another value than the one sent */
-    DFB_REFUSAL_AVERAGES_OVER_PERIOD = 21, /* a processor is enabled and N is above C */
-    DFB_REFUSAL_TOTAL_TOO_LARGE = 24,      /* a band total is over 2^49 */
-    DFB_REFUSAL_TURNED_AWAY = 25,          /* no slot is free and no held slot has a smaller criterion */
-    DFB_REFUSAL_NOTHING_TO_SEND = 26,      /* nothing is held to send, or no criterion is above 0 */
-    DFB_REFUSAL_ALREADY_SENDING = 27,      /* a slot is already sending */
-    DFB_REFUSAL_NONE_SENDING = 28,         /* no slot is sending */
-    DFB_REFUSAL_ZERO_LIMIT = 29            /* the limit is 0 blocks */
+    DFB_REFUSAL_UNKNOWN_COMMAND = 1,         /* the command ID is outside 0x30 to 0x36 */
+    DFB_REFUSAL_WRONG_LENGTH = 2,            /* a list has a wrong length, an output is too small, or a place or number does not fit */
+    DFB_REFUSAL_UNSOUND_STATE = 3,           /* the state is not one that the board, the slots, the counting writer or a sum can have left */
+    DFB_REFUSAL_UNKNOWN_APID = 4,            /* the APID is none of the seven, or 0x4E where a waveform's is wanted */
+    DFB_REFUSAL_INCOMPLETE_SET = 5,          /* the words are not exactly one set */
+    DFB_REFUSAL_NO_PROCESSOR_ENABLED = 6,    /* a SPEC word with no processor enabled */
+    DFB_REFUSAL_ILLEGAL_BAND_CODE = 7,       /* the band code is not legal */
+    DFB_REFUSAL_SUM_CODE_OVERFLOW = 8,       /* the sum code's value is 2^64 or more */
+    DFB_REFUSAL_UNKNOWN_RECORD_KIND = 9,     /* the record kind is none of 1 to 4 */
+    DFB_REFUSAL_TRUNCATED_BODY = 10,         /* the log ends within a record */
+    DFB_REFUSAL_INPUT_TOO_LONG = 11,         /* the log is over 65,536 bytes */
+    DFB_REFUSAL_OUT_OF_RANGE = 12,           /* a bin setting, band, FFT bin or NCAD choice is out of range, or a target is not 36 or 64 bands */
+    DFB_REFUSAL_UNKNOWN_PACKET = 14,         /* the packet's SID is not 33 or its auxiliary length is not 8 */
+    DFB_REFUSAL_PACKET_OUT_OF_RANGE = 15,    /* the total of packets is over 3072, or the packet number is not below the total */
+    DFB_REFUSAL_WRONG_PACKET_LENGTH = 16,    /* the packet is under 20 bytes, or its bytes or samples are not as many as its mask says */
+    DFB_REFUSAL_COMPONENT_OUT_OF_ORDER = 17, /* the component is not the next one */
+    DFB_REFUSAL_KIND_NOT_IN_PROFILE = 18,    /* the record is neither a command nor a second mark */
+    DFB_REFUSAL_SECOND_FALLS = 19,           /* the second is smaller than that of the mark before it */
+    DFB_REFUSAL_VALUE_ALTERED = 20,          /* the register would store another value than the one sent */
+    DFB_REFUSAL_AVERAGES_OVER_PERIOD = 21,   /* a processor is enabled and N is above C */
+    DFB_REFUSAL_TOTAL_TOO_LARGE = 24,        /* a band total is over 2^49 */
+    DFB_REFUSAL_TURNED_AWAY = 25,            /* no slot is free and no held slot has a smaller criterion */
+    DFB_REFUSAL_NOTHING_TO_SEND = 26,        /* nothing is held to send, or no criterion is above 0 */
+    DFB_REFUSAL_ALREADY_SENDING = 27,        /* a slot is already sending */
+    DFB_REFUSAL_NONE_SENDING = 28,           /* no slot is sending */
+    DFB_REFUSAL_ZERO_LIMIT = 29              /* the limit is 0 blocks */
 };
 
 /* The meaning of a refusal, as above; NULL for any other number. */
@@ -76,7 +77,7 @@ static inline const char *dfb_meaning(unsigned refusal)
     switch (refusal) {
     case DFB_REFUSAL_UNKNOWN_COMMAND: return "the command ID is outside 0x30 to 0x36";
     case DFB_REFUSAL_WRONG_LENGTH: return "a list has a wrong length, an output is too small, or a place or number does not fit";
-    case DFB_REFUSAL_UNSOUND_STATE: return "the state is not one that the board, the slots or the counting writer can have left";
+    case DFB_REFUSAL_UNSOUND_STATE: return "the state is not one that the board, the slots, the counting writer or a sum can have left";
     case DFB_REFUSAL_UNKNOWN_APID: return "the APID is none of the seven, or 0x4E where a waveform's is wanted";
     case DFB_REFUSAL_INCOMPLETE_SET: return "the words are not exactly one set";
     case DFB_REFUSAL_NO_PROCESSOR_ENABLED: return "a SPEC word with no processor enabled";
@@ -89,6 +90,7 @@ static inline const char *dfb_meaning(unsigned refusal)
     case DFB_REFUSAL_UNKNOWN_PACKET: return "the packet's SID is not 33 or its auxiliary length is not 8";
     case DFB_REFUSAL_PACKET_OUT_OF_RANGE: return "the total of packets is over 3072, or the packet number is not below the total";
     case DFB_REFUSAL_WRONG_PACKET_LENGTH: return "the packet is under 20 bytes, or its bytes or samples are not as many as its mask says";
+    case DFB_REFUSAL_COMPONENT_OUT_OF_ORDER: return "the component is not the next one";
     case DFB_REFUSAL_KIND_NOT_IN_PROFILE: return "the record is neither a command nor a second mark";
     case DFB_REFUSAL_SECOND_FALLS: return "the second is smaller than that of the mark before it";
     case DFB_REFUSAL_VALUE_ALTERED: return "the register would store another value than the one sent";
@@ -487,6 +489,34 @@ uint32_t dfb_snapshot_read(const uint8_t *packet, size_t packet_len, uint32_t *h
  * where samples_len is not what the mask says, then 2 where packet_len is under dfb_snapshot_bytes(component_mask). */
 uint32_t dfb_snapshot_write(const uint32_t *header, size_t header_len, const int16_t *samples, size_t samples_len, uint8_t *packet,
                             size_t packet_len);
+
+/* ---- summed spectra of the other analyser ---- */
+
+/* A summed spectrum of the LFR (FSUM): the powers of chosen components, real part squared plus imaginary part squared, summed bin by bin and
+ * sent as sum codes (dfb_compress_sum). Eight components come one at a time, 0 to 7; two masks choose them for two sums, component n where bit
+ * n is set. */
+#define DFB_SUM_COMPONENTS 8
+#define DFB_SUM_BINS 1024
+
+/* The state: the next component, the first and the second mask; all 0 at the start. */
+#define DFB_SUM_STATE 3
+
+/* The running totals: 1,024 of the first mask, then 1,024 of the second; all 0 at the start. */
+#define DFB_SUM_TOTALS 2048
+
+/* The numbers of a component, real part first in each of 1,024 pairs, and the bytes of two runs of codes. */
+#define DFB_SUM_PAIRS 2048
+#define DFB_SUM_OUTPUT 4096
+
+/* Adds one component to the totals of each mask that has it. The masks are taken with component 0 and hold for all eight; those of later calls
+ * are not looked at, nor are those of a state whose next component is 0. The eighth component writes 1,024 sum codes of the first mask's
+ * totals and then 1,024 of the second's to out[0..4096], high byte first, sets all totals to 0, and component 0 is next; the masks stay. How
+ * many bytes were written: 4096, or 0 before the eighth; or refusal 2 where state_len is not 3, totals_len not 2048, pairs_len not 2048 or
+ * out_len under 4096 (at every component), 3 where the next component is over 7 or a total is over 2^31 times the number of components that
+ * its mask has counted so far (so any total but 0 where component 0 is next), then 17 where the component is not the next one. A component
+ * outside both masks comes in its turn with its 2,048 numbers, which may be any. */
+uint32_t dfb_sum_component(uint8_t *state, size_t state_len, uint64_t *totals, size_t totals_len, uint8_t component, uint8_t first_mask,
+                           uint8_t second_mask, const int16_t *pairs, size_t pairs_len, uint8_t *out, size_t out_len);
 
 #ifdef __cplusplus
 }

@@ -9,7 +9,7 @@ import ctypes
 import os
 import typing
 
-__version__ = "0.10.0"
+__version__ = "0.11.0"
 
 STATE, TOTALS, POWERS, OUTPUT = 9, 784, 7168, 1176
 RECORD, MOST_WORDS = 3, 7
@@ -17,13 +17,15 @@ REGISTERS = 7
 COUNTS = 7
 FINE_TOTALS, MOST_TOTAL = 112, 1 << 49
 SNAPSHOT_HEADER, MOST_SNAPSHOT_SAMPLES, MOST_SNAPSHOT_BYTES = 10, 1024, 2068
+SUM_COMPONENTS, SUM_BINS = 8, 1024
+SUM_STATE, SUM_TOTALS, SUM_PAIRS, SUM_OUTPUT = 3, 2048, 2048, 4096
 END, COMMAND, WORD, SECOND_MARK, TICK = 0, 1, 2, 3, 4
 FREE, HELD, SENDING = 0, 1, 2
 
 MEANINGS = {
     1: "the command ID is outside 0x30 to 0x36",
     2: "a list has a wrong length, an output is too small, or a place or number does not fit",
-    3: "the state is not one that the board, the slots or the counting writer can have left",
+    3: "the state is not one that the board, the slots, the counting writer or a sum can have left",
     4: "the APID is none of the seven, or 0x4E where a waveform's is wanted",
     5: "the words are not exactly one set",
     6: "a SPEC word with no processor enabled",
@@ -36,6 +38,7 @@ MEANINGS = {
     14: "the packet's SID is not 33 or its auxiliary length is not 8",
     15: "the total of packets is over 3072, or the packet number is not below the total",
     16: "the packet is under 20 bytes, or its bytes or samples are not as many as its mask says",
+    17: "the component is not the next one",
     18: "the record is neither a command nor a second mark",
     19: "the second is smaller than that of the mark before it",
     20: "the register would store another value than the one sent",
@@ -111,6 +114,7 @@ for _name, _answer, _arguments in (
     ("choose_interval", U64, _list(U32) + [U32, U32]),
     ("snapshot_read", U32, _list(U8) + _list(U32) + _list(ctypes.c_int16)),
     ("snapshot_write", U32, _list(U32) + _list(ctypes.c_int16) + _list(U8)),
+    ("sum_component", U32, _list(U8) + _list(U64) + [U8, U8, U8] + _list(ctypes.c_int16) + _list(U8)),
 ):
     _function = getattr(_library, "dfb_" + _name)
     _function.restype, _function.argtypes = _answer, _arguments
@@ -434,6 +438,44 @@ def snapshot_write(header, samples):
     """The bytes of one packet, by a SnapshotHeader and its samples. A number that fits 32 bits but not its field is refused by 2."""
     header, samples, out = _numbers("I", U32, header), _numbers("h", ctypes.c_int16, samples), (U8 * MOST_SNAPSHOT_BYTES)()
     return bytes(out[: _below_16(_library.dfb_snapshot_write(header, len(header), samples, len(samples), out, len(out)))])
+
+
+class Sums(typing.NamedTuple):
+    """Two summed spectra of the LFR: 1,024 sum codes of the first mask and 1,024 of the second. expand_sum gives the value of a code."""
+
+    first: list
+    second: list
+
+
+class Summed:
+    """Sums of components of the LFR, begun at component 0. The state (next component, first and second mask) and the totals, 1,024 of each
+    mask, are kept here between the calls."""
+
+    def __init__(self):
+        self.state = (U8 * SUM_STATE)()
+        self.totals = (U64 * SUM_TOTALS)()
+
+    def add(self, component, first_mask, second_mask, pairs):
+        """Adds a component, 0 to 7 in turn, to the totals of each mask that has it: Sums of all eight at the eighth, and None before it. The
+        pairs are one list of 2,048 numbers, each bin's real part and then its imaginary part. The masks are taken with component 0 and hold
+        for all eight; those of later calls are not looked at."""
+        numbers = _number(component, 8), _number(first_mask, 8), _number(second_mask, 8)
+        pairs, out = _numbers("h", ctypes.c_int16, pairs), (U8 * SUM_OUTPUT)()
+        answer = _library.dfb_sum_component(self.state, SUM_STATE, self.totals, SUM_TOTALS, *numbers, pairs, len(pairs), out, SUM_OUTPUT)
+        if _below_16(answer) == 0:
+            return None
+        codes = [high << 8 | low for high, low in zip(out[::2], out[1::2])]
+        return Sums(codes[:SUM_BINS], codes[SUM_BINS:])
+
+    @property
+    def next_component(self):
+        """The component that the next call must have."""
+        return self.state[0]
+
+    @property
+    def masks(self):
+        """The first and the second mask, those of the last component 0; both 0 before it."""
+        return self.state[1], self.state[2]
 
 
 if __name__ == "__main__":

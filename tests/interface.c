@@ -1428,11 +1428,374 @@ static void test_snapshot_write_refused(void)
     CHECK(packet[13] == 0);
 }
 
+/* ---- summed spectra ---- */
+
+static uint8_t *sum_state, *sum_codes;
+static uint64_t *sums;
+static int16_t *pairs;
+static size_t sum_state_len, sums_len, pairs_len, sum_codes_len;
+
+/* The lists of a call, of so many elements; state, totals and pairs are 0. */
+static void make_sums(size_t numbers, size_t count, size_t parts, size_t bytes)
+{
+    drop_lists();
+    sum_state_len = numbers, sums_len = count, pairs_len = parts, sum_codes_len = bytes;
+    sum_state = (uint8_t *)zero_list(numbers);
+    sums = (uint64_t *)zero_list(count * sizeof *sums);
+    pairs = (int16_t *)zero_list(parts * sizeof *pairs);
+    sum_codes = (uint8_t *)make_list(bytes);
+}
+
+static void make_exact_sums(void)
+{
+    make_sums(DFB_SUM_STATE, DFB_SUM_TOTALS, DFB_SUM_PAIRS, DFB_SUM_OUTPUT);
+}
+
+static uint32_t sum(uint8_t component, uint8_t first, uint8_t second)
+{
+    return dfb_sum_component(sum_state, sum_state_len, sums, sums_len, component, first, second, pairs, pairs_len, sum_codes, sum_codes_len);
+}
+
+static void put_place(uint8_t next, uint8_t first, uint8_t second)
+{
+    sum_state[0] = next, sum_state[1] = first, sum_state[2] = second;
+}
+
+/* The pair of all bins. */
+static void put_pair(int16_t re, int16_t im)
+{
+    for (size_t k = 0; k < DFB_SUM_BINS; k++)
+        pairs[2 * k] = re, pairs[2 * k + 1] = im;
+}
+
+/* The masks that came with component 0, and the components so far as they were handed in. */
+static uint8_t masks_handed[2];
+static int16_t handed[DFB_SUM_COMPONENTS][DFB_SUM_PAIRS];
+
+/* The exact sum of a run at a bin, over so many components. */
+static uint64_t exact_sum(size_t run, size_t k, unsigned count)
+{
+    uint64_t total = 0;
+    for (unsigned n = 0; n < count; n++)
+        if (masks_handed[run] >> n & 1) {
+            int64_t re = handed[n][2 * k], im = handed[n][2 * k + 1];
+            total += (uint64_t)(re * re + im * im);
+        }
+    return total;
+}
+
+/* The sum code: the least exponent at which the value, rounded down, fits ten bits. */
+static unsigned code_of(uint64_t value)
+{
+    unsigned exponent = 0;
+    while (value >> exponent > 1023)
+        exponent++;
+    return exponent << 10 | (unsigned)(value >> exponent);
+}
+
+/* What a code stands for is at most the sum, equal to it under 1024, and otherwise short by less than 1/513 of it. */
+static int is_within_bounds(unsigned code, uint64_t exact)
+{
+    uint64_t value = (uint64_t)(code & 1023u) << (code >> 10);
+    return exact < 1024 ? value == exact : value <= exact && 513 * (exact - value) < exact;
+}
+
+static unsigned code_at(size_t place)
+{
+    return (unsigned)sum_codes[2 * place] << 8 | sum_codes[2 * place + 1];
+}
+
+/* The next component is accepted. State and totals are then those of the components handed in, and the output has their codes at the eighth
+ * and is as it was before that. */
+static void check_taken(int line, uint8_t component, uint8_t first, uint8_t second)
+{
+    unsigned count = component + 1u;
+    int is_last = count == DFB_SUM_COMPONENTS, is_right = 1;
+    memcpy(handed[component], pairs, sizeof handed[component]);
+    if (component == 0)
+        masks_handed[0] = first, masks_handed[1] = second;
+    remember();
+    uint32_t answer = sum(component, first, second);
+    check(line, answer == (is_last ? 4096u : 0u), "the answer of a component");
+    check(line, dfb_refusal(answer) == 0 && dfb_refusal_u32(answer) == 0, "a component is refused");
+    check(line, sum_state[0] == (is_last ? 0 : count), "the next component");
+    check(line, sum_state[1] == masks_handed[0] && sum_state[2] == masks_handed[1], "the masks in force");
+    for (size_t place = 0; place < DFB_SUM_TOTALS; place++) {
+        uint64_t exact = exact_sum(place / DFB_SUM_BINS, place % DFB_SUM_BINS, count);
+        is_right &= sums[place] == (is_last ? 0 : exact);
+        if (is_last)
+            is_right &= code_at(place) == code_of(exact) && is_within_bounds(code_at(place), exact);
+    }
+    check(line, is_right, "the totals or the codes");
+    size_t written = is_last ? DFB_SUM_OUTPUT : 0;
+    check(line, memcmp(sum_codes + written, lists[3].before + written, sum_codes_len - written) == 0, "the rest of the output changes");
+    check(line, memcmp(pairs, lists[2].before, sizeof handed[component]) == 0, "the pairs change");
+}
+
+#define TAKEN(component, first, second) check_taken(__LINE__, (uint8_t)(component), (uint8_t)(first), (uint8_t)(second))
+
+/* Every code of a run. */
+static int is_run_of(size_t run, unsigned code)
+{
+    for (size_t k = 0; k < DFB_SUM_BINS; k++)
+        if (sum_codes[2048 * run + 2 * k] != code >> 8 || sum_codes[2048 * run + 2 * k + 1] != (code & 0xFFu))
+            return 0;
+    return 1;
+}
+
+/* Rounds by hand, one after the other: masks, eight pairs that stand in all bins, and the codes of both runs. */
+static void test_sums(void)
+{
+    enum { LEAST = -32768, MOST = 32767 };
+    static const struct {
+        uint8_t first, second;
+        int16_t parts[8][2];
+        unsigned codes[2];
+    } rounds[] = {
+        /* 3*3 + 4*4 = 25 */
+        {0x01, 0x03, {{3, 4}, {3, 4}, {3, 4}, {3, 4}, {3, 4}, {3, 4}, {3, 4}, {3, 4}}, {0x0019, 0x0032}},
+        {0xFF, 0x00, {{-3, 4}, {3, -4}, {-3, -4}, {0, 5}, {0, -5}, {5, 0}, {-5, 0}, {4, 3}}, {0x00C8, 0x0000}},
+        /* each component by itself: 1, 4, .. 64 */
+        {0x01, 0xFE, {{1, 0}, {0, 2}, {3, 0}, {0, 4}, {5, 0}, {0, 6}, {7, 0}, {0, 8}}, {0x0001, 0x00CB}},
+        {0x80, 0x7F, {{1, 0}, {0, 2}, {3, 0}, {0, 4}, {5, 0}, {0, 6}, {7, 0}, {0, 8}}, {0x0040, 0x008C}},
+        {0x55, 0xAA, {{1, 0}, {0, 2}, {3, 0}, {0, 4}, {5, 0}, {0, 6}, {7, 0}, {0, 8}}, {0x0054, 0x0078}},
+        /* 1010 + 13 = 1023 and 1024; those outside both masks hold anything */
+        {0x03, 0x04, {{31, 7}, {3, 2}, {32, 0}, {LEAST, MOST}, {MOST, LEAST}, {LEAST, LEAST}, {-1, -1}, {MOST, MOST}}, {0x03FF, 0x0600}},
+        /* 1025 is rounded down, 1026 = 513*2 */
+        {0x01, 0x81, {{32, 1}, {9, 9}, {9, 9}, {9, 9}, {9, 9}, {9, 9}, {9, 9}, {0, -1}}, {0x0600, 0x0601}},
+        /* 2046 and 2047; 2048 and 2050 */
+        {0x03, 0x07, {{45, 4}, {2, -1}, {-1, 0}, {0, 0}, {0, 0}, {0, 0}, {0, 0}, {0, 0}}, {0x07FF, 0x07FF}},
+        {0x10, 0x30, {{7, 7}, {7, 7}, {7, 7}, {7, 7}, {32, -32}, {1, 1}, {7, 7}, {7, 7}}, {0x0A00, 0x0A00}},
+        /* 2^31 and 2^34; 3*2^31 and 7*2^31 */
+        {0x10, 0xFF,
+         {{LEAST, LEAST}, {LEAST, LEAST}, {LEAST, LEAST}, {LEAST, LEAST}, {LEAST, LEAST}, {LEAST, LEAST}, {LEAST, LEAST}, {LEAST, LEAST}},
+         {0x5A00, 0x6600}},
+        {0x29, 0xFE,
+         {{LEAST, LEAST}, {LEAST, LEAST}, {LEAST, LEAST}, {LEAST, LEAST}, {LEAST, LEAST}, {LEAST, LEAST}, {LEAST, LEAST}, {LEAST, LEAST}},
+         {0x5F00, 0x6380}},
+        /* 2^31 - 131070, and 2^31 - 65535; 2^30, and 2^30 - 65535 */
+        {0x01, 0x02, {{MOST, MOST}, {LEAST, MOST}, {1, 1}, {1, 1}, {1, 1}, {1, 1}, {1, 1}, {1, 1}}, {0x57FF, 0x57FF}},
+        {0x04, 0x40, {{1, 1}, {1, 1}, {0, LEAST}, {1, 1}, {1, 1}, {1, 1}, {MOST, 0}, {1, 1}}, {0x5600, 0x53FF}},
+        /* 256 has its high byte first */
+        {0x08, 0x00, {{1, 1}, {1, 1}, {1, 1}, {-16, 0}, {1, 1}, {1, 1}, {1, 1}, {1, 1}}, {0x0100, 0x0000}},
+        {0x00, 0x00, {{MOST, MOST}, {1, 1}, {1, 1}, {1, 1}, {1, 1}, {1, 1}, {1, 1}, {1, 1}}, {0x0000, 0x0000}},
+    };
+    CHECK(DFB_SUM_COMPONENTS == 8 && DFB_SUM_BINS == 1024 && DFB_SUM_STATE == 3 && DFB_SUM_TOTALS == 2048);
+    CHECK(DFB_SUM_PAIRS == 2048 && DFB_SUM_OUTPUT == 4096 && DFB_REFUSAL_COMPONENT_OUT_OF_ORDER == 17);
+    make_exact_sums();
+    for (size_t i = 0; i < sizeof rounds / sizeof *rounds; i++) {
+        for (unsigned n = 0; n < 8; n++) {
+            put_pair(rounds[i].parts[n][0], rounds[i].parts[n][1]);
+            TAKEN(n, n == 0 ? rounds[i].first : 0xFF, n == 0 ? rounds[i].second : n);
+        }
+        CHECK(is_run_of(0, rounds[i].codes[0]) && is_run_of(1, rounds[i].codes[1]));
+        CHECK(sum_state[0] == 0 && sum_state[1] == rounds[i].first && sum_state[2] == rounds[i].second);
+    }
+}
+
+/* Another pair in each bin: real part k in component 0, imaginary part -k in component 1. */
+static void test_sum_bins(void)
+{
+    static const struct {
+        size_t k;
+        unsigned code;
+    } squares[] = {{0, 0x0000}, {1, 0x0001}, {16, 0x0100}, {31, 0x03C1}, {32, 0x0600}, {33, 0x0620}, {64, 0x0E00}, {100, 0x1271},
+                   {512, 0x2600}, {1000, 0x2BD0}, {1022, 0x2BFC}, {1023, 0x2BFE}};
+    make_exact_sums();
+    for (unsigned n = 0; n < 8; n++) {
+        put_pair(n > 1 ? 77 : 0, n > 1 ? -77 : 0);
+        for (size_t k = 0; n < 2 && k < DFB_SUM_BINS; k++)
+            pairs[2 * k + n] = (int16_t)(n == 0 ? (int)k : -(int)k);
+        TAKEN(n, 0x01, 0x02);
+    }
+    for (size_t i = 0; i < sizeof squares / sizeof *squares; i++)
+        CHECK(code_at(squares[i].k) == squares[i].code && code_at(DFB_SUM_BINS + squares[i].k) == squares[i].code);
+    /* one number of one bin, of each run */
+    for (size_t place = 0; place < DFB_SUM_PAIRS; place += place == 1 ? 1021 : place == 1023 ? 1023 : 1)
+        for (unsigned run = 0; run < 2; run++) {
+            put_pair(0, 0);
+            pairs[place] = -300; /* 90000 = 703 * 128 + 16 */
+            for (unsigned n = 0; n < 8; n++)
+                TAKEN(n, run == 0 ? 0x20 : 0, run == 1 ? 0x20 : 0);
+            for (size_t i = 0; i < DFB_SUM_TOTALS; i++)
+                CHECK(code_at(i) == (i == DFB_SUM_BINS * run + place / 2 ? 0x1EBFu : 0u));
+        }
+}
+
+/* Every mask; the masks of later calls and those of a state at component 0 are not looked at, and stay after the eighth. */
+static void test_sum_masks(void)
+{
+    make_exact_sums();
+    for (unsigned mask = 0; mask < 256; mask++) {
+        put_place(0, (uint8_t)(mask * 7), (uint8_t)(255 - mask * 3 % 256));
+        for (unsigned n = 0; n < 8; n++) {
+            put_pair((int16_t)(n * n + 1), (int16_t)(mask - 128 * n));
+            TAKEN(n, n == 0 ? mask : mask + n, n == 0 ? 255 - mask : 0);
+            if (n > 0)
+                continue;
+            REFUSED_32(17u, sum(0, 255, 255)); /* and the masks stay */
+        }
+        CHECK(sum_state[1] == mask && sum_state[2] == 255 - mask);
+    }
+}
+
+/* Whole histories: pairs that differ everywhere, masks, and refused calls among the others. */
+static void test_sum_histories(void)
+{
+    uint32_t seed = 1;
+    make_sums(DFB_SUM_STATE, DFB_SUM_TOTALS, DFB_SUM_PAIRS, DFB_SUM_OUTPUT + 3);
+    for (unsigned round = 0; round < 40; round++)
+        for (unsigned n = 0; n < 8; n++) {
+            for (size_t i = 0; i < DFB_SUM_PAIRS; i++) {
+                seed = seed * 1664525u + 1013904223u;
+                int part = (int)(seed >> 16) - 32768;
+                pairs[i] = (int16_t)(round % 4 == 0 ? part : part / (1 << (3 * round % 16)));
+            }
+            uint8_t first = (uint8_t)(seed >> 8), second = (uint8_t)(seed >> 3), other = (uint8_t)(seed >> 20);
+            if (other != n)
+                REFUSED_32(17u, sum(other, first, second));
+            if (seed >> 31)
+                REFUSED_32(2u, dfb_sum_component(sum_state, 3, sums, 2048, (uint8_t)n, 1, 1, pairs, 2047, sum_codes, 4096));
+            TAKEN(n, first, second);
+            REFUSED_32(17u, sum((uint8_t)n, second, first));
+            REFUSED_32(2u, dfb_sum_component(sum_state, 3, sums, 2048, (uint8_t)(n + 1), 1, 1, pairs, 2048, sum_codes, 4095));
+        }
+}
+
+/* At every one of the eight calls: lists that are too short, too long, or not there; and a longer output, whose rest stays. */
+static void test_sum_lengths(void)
+{
+    static const size_t lengths[][4] = {{0, 2048, 2048, 4096},    {1, 2048, 2048, 4096},   {2, 2048, 2048, 4096}, {4, 2048, 2048, 4096},
+                                        {3, 0, 2048, 4096},       {3, 1024, 2048, 4096},   {3, 2047, 2048, 4096}, {3, 2049, 2048, 4096},
+                                        {3, 4096, 2048, 4096},    {3, 2048, 0, 4096},      {3, 2048, 1024, 4096}, {3, 2048, 2047, 4096},
+                                        {3, 2048, 2049, 4096},    {3, 2048, 4096, 4096},   {3, 2048, 2048, 0},    {3, 2048, 2048, 2048},
+                                        {3, 2048, 2048, 4094},    {3, 2048, 2048, 4095}};
+    for (uint8_t n = 0; n < 8; n++) {
+        for (size_t i = 0; i < sizeof lengths / sizeof *lengths; i++) {
+            make_sums(lengths[i][0], lengths[i][1], lengths[i][2], lengths[i][3]);
+            memset(sum_state, n, sum_state_len);
+            REFUSED_32(2u, sum(n, n, n));
+        }
+        make_exact_sums();
+        put_place(n, 0xFF, 0x0F);
+        REFUSED_32(2u, dfb_sum_component(NULL, 0, sums, 2048, n, 0xFF, 0x0F, pairs, 2048, sum_codes, 4096));
+        REFUSED_32(2u, dfb_sum_component(sum_state, 3, NULL, 0, n, 0xFF, 0x0F, pairs, 2048, sum_codes, 4096));
+        REFUSED_32(2u, dfb_sum_component(sum_state, 3, sums, 2048, n, 0xFF, 0x0F, NULL, 0, sum_codes, 4096));
+        REFUSED_32(2u, dfb_sum_component(sum_state, 3, sums, 2048, n, 0xFF, 0x0F, pairs, 2048, NULL, 0));
+        REFUSED_32(2u, dfb_sum_component(NULL, 0, NULL, 0, n, 0xFF, 0x0F, NULL, 0, NULL, 0));
+    }
+    static const size_t longer[] = {4097, 4098, 4100, 8192};
+    for (size_t i = 0; i < sizeof longer / sizeof *longer; i++) {
+        make_sums(DFB_SUM_STATE, DFB_SUM_TOTALS, DFB_SUM_PAIRS, longer[i]);
+        for (unsigned n = 0; n < 16; n++) {
+            put_pair((int16_t)(100 * n), -5);
+            TAKEN(n % 8, 0x3C, 0xF7);
+        }
+    }
+}
+
+/* The number of a mask's components below one. */
+static unsigned counted_below(unsigned mask, unsigned n)
+{
+    unsigned counted = 0;
+    for (unsigned bit = 0; bit < n; bit++)
+        counted += mask >> bit & 1u;
+    return counted;
+}
+
+static void test_sum_unsound(void)
+{
+    static const size_t places[] = {0, 1, 1022, 1023, 1024, 1025, 2046, 2047};
+    make_exact_sums();
+    put_pair(1, 0);
+    for (unsigned next = 8; next < 256; next++) {
+        put_place((uint8_t)next, 0xFF, 0xFF);
+        REFUSED_32(3u, sum((uint8_t)next, 0xFF, 0xFF));
+        REFUSED_32(3u, sum(0, 0xFF, 0xFF));
+        REFUSED_32(3u, sum((uint8_t)(next % 8), 0xFF, 0xFF));
+    }
+    /* at component 0 every total is 0, whatever the masks */
+    for (size_t place = 0; place < DFB_SUM_TOTALS; place++) {
+        put_place(0, (uint8_t)(place % 3 * 0x7F), (uint8_t)(0xFF >> place % 2));
+        sums[place] = place % 5 == 0 ? (uint64_t)1 << (place % 64) : 1;
+        REFUSED_32(3u, sum(0, 0xFF, 0xFF));
+        sums[place] = 0;
+    }
+    /* after it, 2^31 for each component below the next that the run's own mask has */
+    for (unsigned mask = 0; mask < 256; mask++)
+        for (unsigned next = 1; next < 8; next++)
+            for (unsigned run = 0; run < 2; run++) {
+                unsigned own = run == 0 ? mask : 255 - mask;
+                uint64_t most = (uint64_t)counted_below(own, next) << 31, half = (uint64_t)1 << 63;
+                const uint64_t over[] = {most + 1, 2 * most + 1, half - 1, half, half + most, half + most + 1, UINT64_MAX};
+                size_t place = DFB_SUM_BINS * run + places[(mask + next) % 8] % DFB_SUM_BINS;
+                put_place((uint8_t)next, (uint8_t)mask, (uint8_t)(255 - mask));
+                for (size_t i = 0; i < sizeof over / sizeof *over; i++) {
+                    sums[place] = over[i];
+                    REFUSED_32(3u, sum((uint8_t)next, 0xFF, 0xFF));
+                }
+                sums[place] = most;
+                REFUSED_32(17u, sum((uint8_t)(next - 1), 0xFF, 0xFF)); /* sound, so the next refusal comes */
+                uint32_t answer = sum((uint8_t)next, 0xFF, 0xFF);
+                uint64_t total = most + (own >> next & 1u);
+                if (next < 7)
+                    CHECK(answer == 0 && sums[place] == total && sum_state[0] == next + 1);
+                else
+                    CHECK(answer == 4096 && sums[place] == 0 && code_at(place) == code_of(total) && sum_state[0] == 0);
+                CHECK(sum_state[1] == mask && sum_state[2] == 255 - mask);
+                memset(sums, 0, DFB_SUM_TOTALS * sizeof *sums);
+            }
+    /* all totals at the greatest limit: 7 * 2^31, and 2^34 after a last component of 2^31 */
+    put_place(7, 0xFF, 0x7F);
+    put_pair(-32768, -32768);
+    for (size_t i = 0; i < DFB_SUM_TOTALS; i++)
+        sums[i] = (uint64_t)7 << 31;
+    CHECK(sum(7, 0, 0) == 4096 && is_run_of(0, 0x6600) && is_run_of(1, 0x6380));
+}
+
+/* At every place every other component. */
+static void test_sum_order(void)
+{
+    make_exact_sums();
+    for (unsigned n = 0; n < 8; n++) {
+        for (unsigned component = 0; component < 256; component++)
+            if (component != n)
+                REFUSED_32(17u, sum((uint8_t)component, 0xFF, (uint8_t)component));
+        put_pair(-32768, -32768);
+        TAKEN(n, 0xF0, 0x3F);
+        CHECK(sums[0] == (n == 7 ? 0 : (uint64_t)counted_below(0xF0, n + 1) << 31));
+    }
+    CHECK(is_run_of(0, 0x6200) && is_run_of(1, 0x6300)); /* 4 * 2^31 = 512 * 2^24, and 6 * 2^31 = 768 * 2^24 */
+}
+
+/* Every choice of faults at once gives the refusal that is first in order. */
+static void test_sum_faults(void)
+{
+    enum { STATE = 1, COUNT = 2, PARTS = 4, BYTES = 8, NEXT = 16, FIRST = 32, SECOND = 64, COMPONENT = 128, ALL = 256 };
+    for (unsigned made = 1; made < ALL; made++)
+        for (unsigned turn = 0; turn < 4; turn++) {
+            size_t more = turn % 2 ? 2 : 0; /* one element more, or one less */
+            make_sums(made & STATE ? 2 + more : 3, made & COUNT ? 2047 + more : 2048, made & PARTS ? 2047 + more : 2048,
+                      made & BYTES ? (turn % 2 ? 0 : 4095) : 4096);
+            sum_state[0] = made & NEXT ? (turn < 2 ? 8 : 255) : 3;
+            sum_state[1] = 0x05; /* 2 of the components so far */
+            if (sum_state_len > 2)
+                sum_state[2] = 0xF8; /* none of them */
+            if (made & FIRST)
+                sums[turn < 2 ? 0 : 1023] = ((uint64_t)1 << 32) + 1;
+            if (made & SECOND)
+                sums[turn < 2 ? 1024 : 2046] = 1;
+            uint8_t component = made & COMPONENT ? (turn < 2 ? 2 : 11) : 3;
+            unsigned refusal = made & (STATE | COUNT | PARTS | BYTES) ? 2 : made & (NEXT | FIRST | SECOND) ? 3 : 17;
+            REFUSED_32(refusal, sum(component, 0xFF, 0xFF));
+        }
+}
+
 /* ---- the header by itself ---- */
 
 static void test_meanings(void)
 {
-    static const uint8_t numbers[] = {1, 2, 3, 4, 5, 6, 7, 8, 9, 10, 11, 12, 14, 15, 16, 18, 19, 20, 21, 24, 25, 26, 27, 28, 29};
+    static const uint8_t numbers[] = {1, 2, 3, 4, 5, 6, 7, 8, 9, 10, 11, 12, 14, 15, 16, 17, 18, 19, 20, 21, 24, 25, 26, 27, 28, 29};
     size_t found = 0;
     for (unsigned n = 0; n < 0x20000; n++) {
         int is_refusal = found < sizeof numbers && numbers[found] == n;
@@ -1440,6 +1803,8 @@ static void test_meanings(void)
         found += (size_t)is_refusal;
     }
     CHECK(strcmp(dfb_meaning(DFB_REFUSAL_ALREADY_SENDING), "a slot is already sending") == 0);
+    CHECK(strcmp(dfb_meaning(3), "the state is not one that the board, the slots, the counting writer or a sum can have left") == 0);
+    CHECK(strcmp(dfb_meaning(17), "the component is not the next one") == 0);
     CHECK(strcmp(dfb_meaning(14), "the packet's SID is not 33 or its auxiliary length is not 8") == 0);
     CHECK(strcmp(dfb_meaning(15), "the total of packets is over 3072, or the packet number is not below the total") == 0);
     CHECK(strcmp(dfb_meaning(16), "the packet is under 20 bytes, or its bytes or samples are not as many as its mask says") == 0);
@@ -1557,6 +1922,14 @@ static const struct test {
     {"snapshot limits", test_snapshot_limits},
     {"snapshot reads refused", test_snapshot_read_refused},
     {"snapshot writes refused", test_snapshot_write_refused},
+    {"sums", test_sums},
+    {"sums of bins", test_sum_bins},
+    {"masks of sums", test_sum_masks},
+    {"histories of sums", test_sum_histories},
+    {"lengths of sums", test_sum_lengths},
+    {"unsound sums", test_sum_unsound},
+    {"order of components", test_sum_order},
+    {"faults of sums", test_sum_faults},
     {"meanings", test_meanings},
     {"bases", test_bases},
     {"offsets", test_offsets},

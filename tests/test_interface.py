@@ -25,8 +25,8 @@ def read(*path):
 
 def sources():
     """The text of each declaration."""
-    crates = "refusal registers words log model listing bursts interval coarse counts snapshot dfb_refusals"
-    crates += " dfb_board dfb_log dfb_bands dfb_bursts dfb_interval dfb_coarse dfb_checker dfb_counts dfb_snapshot"
+    crates = "refusal registers words log model listing bursts interval coarse counts snapshot summed dfb_refusals"
+    crates += " dfb_board dfb_log dfb_bands dfb_bursts dfb_interval dfb_coarse dfb_checker dfb_counts dfb_snapshot dfb_summed"
     texts = {crate: read("crates", crate, "src", "lib.rt") for crate in crates.split()}
     texts.update(header=read("include", "dfb.h"), rust=read("rust", "src", "lib.rs"), python=read("python", "dfb.py"))
     texts.update(cargo=read("rust", "Cargo.toml"))
@@ -199,6 +199,8 @@ def rattle_constants(texts):
     samples = 8 * number(one(r"(\d+) \* u8::count_ones\(mask\)", texts["snapshot"]))
     constants["DFB_MOST_SNAPSHOT_SAMPLES"] = samples
     constants["DFB_MOST_SNAPSHOT_BYTES"] = rattle_constant(texts["snapshot"], "HEADER") + 2 * samples
+    constants.update({"DFB_SUM_" + name: rattle_constant(texts["summed"], name) for name in ("COMPONENTS", "BINS", "TOTALS", "PAIRS", "OUTPUT")})
+    constants["DFB_SUM_STATE"] = rattle_constant(texts["dfb_summed"], "STATE")
     return constants
 
 
@@ -227,6 +229,7 @@ def constant_differences(texts, module):
     differences = compare("header", header_constants(texts["header"]), expected)
     names = {"STATE", "TOTALS", "POWERS", "OUTPUT", "RECORD", "MOST_WORDS", "REGISTERS", "COUNTS", "FINE_TOTALS", "MOST_TOTAL"}
     names |= {"SNAPSHOT_HEADER", "MOST_SNAPSHOT_SAMPLES", "MOST_SNAPSHOT_BYTES"}
+    names |= {"SUM_COMPONENTS", "SUM_BINS", "SUM_STATE", "SUM_TOTALS", "SUM_PAIRS", "SUM_OUTPUT"}
     python = {name: expected["DFB_" + name] for name in names}
     python.update({name: expected["DFB_KIND_" + name] for name in ("END", "COMMAND", "WORD", "SECOND_MARK", "TICK")})
     python.update({name: expected["DFB_SLOT_" + name] for name in ("FREE", "HELD", "SENDING")})
@@ -339,6 +342,23 @@ WRONG_EDITS = [
     ("header", "uint32_t dfb_snapshot_write(", "uint64_t dfb_snapshot_write("),
     ("header", "const uint32_t *header, size_t header_len, const int16_t *samples, size_t samples_len",
      "const int16_t *samples, size_t samples_len, const uint32_t *header, size_t header_len"),
+    ("header", "#define DFB_SUM_COMPONENTS 8", "#define DFB_SUM_COMPONENTS 7"),
+    ("header", "#define DFB_SUM_BINS 1024", "#define DFB_SUM_BINS 1023"),
+    ("header", "#define DFB_SUM_STATE 3", "#define DFB_SUM_STATE 4"),
+    ("header", "#define DFB_SUM_TOTALS 2048", "#define DFB_SUM_TOTALS 1024"),
+    ("header", "#define DFB_SUM_PAIRS 2048", "#define DFB_SUM_PAIRS 1024"),
+    ("header", "#define DFB_SUM_OUTPUT 4096", "#define DFB_SUM_OUTPUT 2048"),
+    ("header", "DFB_REFUSAL_COMPONENT_OUT_OF_ORDER = 17", "DFB_REFUSAL_COMPONENT_OUT_OF_ORDER = 13"),
+    ("header", "/* the component is not the next one */", "/* the component is not one of the next */"),
+    ("header", 'return "the component is not the next one"', 'return "the component is the next one"'),
+    ("header", "the counting writer or a sum can have left */", "the counting writer can have left */"),
+    ("header", "uint32_t dfb_sum_component(uint8_t *state", "uint64_t dfb_sum_component(uint8_t *state"),
+    ("header", "dfb_sum_component(uint8_t *state", "dfb_sum_component(const uint8_t *state"),
+    ("header", "size_t state_len, uint64_t *totals, size_t totals_len, uint8_t component",
+     "size_t state_len, uint32_t *totals, size_t totals_len, uint8_t component"),
+    ("header", "uint8_t component, uint8_t first_mask", "uint8_t first_mask, uint8_t component"),
+    ("header", "uint8_t second_mask, const int16_t *pairs", "uint8_t second_mask, int16_t *pairs"),
+    ("header", "size_t pairs_len, uint8_t *out, size_t out_len", "size_t pairs_len, const uint8_t *out, size_t out_len"),
     ("header", "#define DFB_TOTALS 784", "#define DFB_TOTALS 784\n#define DFB_MORE (1u << 3)"),
     ("header", "uint8_t dfb_compress_band(uint32_t value);", "uint8_t dfb_compress_band(uint32_t value);\nextern int dfb_more (void);"),
     ("rust", "pub fn dfb_compress_band(value: u32) -> u8;", "pub fn dfb_compress_band(value: u32) -> u8; pub fn dfb_more(value: u8);"),
@@ -364,6 +384,14 @@ WRONG_EDITS = [
     ("rust", "    pub switches_12: u8,", "    pub switches_12: u16,"),
     ("rust", "UnknownPacket = 14,", "UnknownPacket = 13,"),
     ("rust", "16 => Refusal::WrongPacketLength", "17 => Refusal::WrongPacketLength"),
+    ("rust", "pub const SUM_COMPONENTS: u8 = 8", "pub const SUM_COMPONENTS: u8 = 7"),
+    ("rust", "pub const SUM_OUTPUT: usize = 4096", "pub const SUM_OUTPUT: usize = 2048"),
+    ("rust", "pub fn dfb_sum_component(\n            state: *mut u8", "pub fn dfb_sum_component(\n            state: *const u8"),
+    ("rust", "component: u8,\n            first_mask: u8", "first_mask: u8,\n            component: u8"),
+    ("rust", "pairs: *const i16,", "pairs: *mut i16,"),
+    ("rust", "ComponentOutOfOrder = 17,", "ComponentOutOfOrder = 13,"),
+    ("rust", "17 => Refusal::ComponentOutOfOrder", "13 => Refusal::ComponentOutOfOrder"),
+    ("rust", '"the component is not the next one"', '"the component is the next one"'),
     ("rust", "ValueAltered = 20,", "ValueAltered = 21,"),
     ("rust", "19 => Refusal::SecondFalls", "21 => Refusal::SecondFalls"),
     ("rust", '"a slot is already sending"', '"a slot is sending"'),
@@ -386,6 +414,13 @@ WRONG_EDITS = [
     ("python", "MOST_SNAPSHOT_BYTES = 10, 1024, 2068", "MOST_SNAPSHOT_BYTES = 10, 1024, 2052"),
     ("python", "    total_packets: int\n    artefacts: int\n", "    artefacts: int\n    total_packets: int\n"),
     ("python", '15: "the total of packets is over 3072', '15: "the total of packets is over 3073'),
+    ("python", '("sum_component", U32, _list(U8) + _list(U64)', '("sum_component", U32, _list(U64) + _list(U8)'),
+    ("python", "[U8, U8, U8] + _list(ctypes.c_int16) + _list(U8)", "[U8, U8] + _list(ctypes.c_int16) + _list(U8)"),
+    ("python", "[U8, U8, U8] + _list(ctypes.c_int16)", "[U8, U8, U8] + _list(U16)"),
+    ("python", "SUM_COMPONENTS, SUM_BINS = 8, 1024", "SUM_COMPONENTS, SUM_BINS = 8, 2048"),
+    ("python", "SUM_PAIRS, SUM_OUTPUT = 3, 2048, 2048, 4096", "SUM_PAIRS, SUM_OUTPUT = 3, 2048, 2048, 2048"),
+    ("python", '17: "the component is not the next one"', '17: "the component is out of order"'),
+    ("python", "the counting writer or a sum can have left", "the counting writer can have left"),
     ("python", '("compress_band", U8, [U32])', '("compress_band", U8, [ctypes.c_int32])'),
     ("python", '("command", U32, _list(U16) + _list(U64)', '("command", U32, _list(U64) + _list(U16)'),
     ("python", "SECOND_MARK, TICK = 0, 1, 2, 3, 4", "TICK, SECOND_MARK = 0, 1, 2, 3, 4"),

@@ -14,6 +14,7 @@ sys.path.insert(0, os.path.join(TOP, "tools", "cases"))
 import dfb  # noqa: E402
 import counts_model  # noqa: E402
 import snapshot_model  # noqa: E402
+import sums_model  # noqa: E402
 from checklist_model import Bad, check, command, mark, random_list  # noqa: E402
 from listing_model import random_log  # noqa: E402
 
@@ -378,8 +379,129 @@ class Python(unittest.TestCase):
             else:
                 self.assertEqual(dfb.snapshot_write(header, samples), expected)
 
+    def test_sums(self):
+        sums = dfb.Summed()
+        self.assertEqual((sums.next_component, sums.masks, bytes(sums.state), bytes(sums.totals)), (0, (0, 0), bytes(3), bytes(8 * 2048)))
+        pairs = [3, -4] * dfb.SUM_BINS
+        for n in range(7):
+            self.assertIsNone(sums.add(n, *((0x81, 0x02) if n == 0 else (0xFF, n)), pairs))
+            self.assertEqual((sums.next_component, sums.masks), (n + 1, (0x81, 0x02)))
+            self.assertEqual(list(sums.totals), [25] * 1024 + [25 if n > 0 else 0] * 1024)
+        self.refused(17, sums.add, 0, 0x81, 0x02, pairs)
+        self.refused(2, sums.add, 7, 0, 0, pairs[1:])
+        self.assertEqual((list(sums.state), sums.totals[0]), ([7, 0x81, 0x02], 25))
+        self.assertEqual(sums.add(7, 0, 0, pairs), dfb.Sums([50] * 1024, [25] * 1024))
+        self.assertEqual((sums.next_component, sums.masks, bytes(sums.totals)), (0, (0x81, 0x02), bytes(8 * 2048)))
+        # without masks neither sum has a component
+        for n in range(8):
+            answer = sums.add(n, 0, 0, pairs)
+        self.assertEqual((answer, sums.masks), (([0] * 1024, [0] * 1024), (0, 0)))
+        # the codes of 1023, 1024 and 1025, and of 2^31 and 2^34; the first bin and the last
+        self.assertEqual(self.summed([[31, 7] + [0, 0] * 1022 + [32, 1], [3, 2] + [0, 0] * 1022 + [0, 0]] + [[9, 9] * 1024] * 6, 0x03, 0x01),
+                         ([0x03FF] + [0] * 1022 + [0x0600], [1010] + [0] * 1022 + [0x0600]))
+        self.assertEqual(self.summed([[-32768] * 2048] * 8, 0x08, 0xFF), ([0x5A00] * 1024, [0x6600] * 1024))
+        self.assertEqual((dfb.expand_sum(0x5A00), dfb.expand_sum(0x6600)), (2**31, 2**34))
+        # other pairs in each bin
+        self.assertEqual(self.summed([range(2048), range(0, -2048, -1)] + [[0] * 2048] * 6, 0x02, 0x03).first[:4], [1, 13, 41, 85])
+
+    def summed(self, components, first_mask, second_mask):
+        sums = dfb.Summed()
+        answers = [sums.add(n, first_mask, second_mask, pairs) for n, pairs in enumerate(components)]
+        self.assertEqual(answers[:7], [None] * 7)
+        return answers[7]
+
+    def test_sums_refused(self):
+        sums, pairs = dfb.Summed(), [1, 1] * dfb.SUM_BINS
+        for n in range(8):
+            for length in (0, 1, 1024, 2047, 2049, 4096):
+                self.refused(2, sums.add, n, 255, 255, [0] * length)
+            for other in set(range(256)) - {n}:
+                self.refused(17, sums.add, other, 255, 255, pairs)
+            self.refused(2, sums.add, 255, 255, 255, pairs[1:])
+            self.assertEqual((sums.next_component, sums.masks, sums.totals[2047]), (n, (15, 240) if n else (0, 0), 2 * max(n - 4, 0)))
+            answer = sums.add(n, 15, 240, pairs)
+        self.assertEqual(answer, ([8] * 1024, [8] * 1024))
+        # 3: the next component, and a total; first 2, then 3, then 17
+        for place in (8, 9, 255):
+            sums.state[0] = place
+            self.refused(3, sums.add, place, 0, 0, pairs)
+            self.refused(3, sums.add, 0, 0, 0, pairs)
+            self.refused(2, sums.add, 0, 0, 0, pairs + [0])
+        for place, most in ((0, (0, 0)), (1, (2**31, 0)), (4, (2**33, 0)), (5, (2**33, 2**31)), (7, (2**33, 3 * 2**31))):
+            for at in (0, 1023, 1024, 2047):
+                sums.state[:] = place, 15, 240
+                sums.totals[at] = most[at // 1024] + 1
+                self.refused(3, sums.add, place, 0, 0, pairs)
+                self.refused(3, sums.add, 255, 0, 0, pairs)
+                self.refused(2, sums.add, place, 0, 0, pairs[1:])
+                self.assertEqual((list(sums.state), sums.totals[at]), ([place, 15, 240], most[at // 1024] + 1))
+                sums.totals[at] = most[at // 1024]
+                self.refused(17, sums.add, 255, 0, 0, pairs)
+                self.assertEqual(sums.add(place, 0, 0, pairs) is None, place < 7)
+                sums.totals[:] = [0] * 2048
+
+    def sums_agree(self, sums, model, component, pairs, first, second):
+        """One call does what the model says, which is given the same state and totals; the model's codes, or None where the call is refused."""
+        try:
+            state, totals, written = sums_model.sum_component(*model, component, first, second, pairs)
+        except sums_model.Refused as refused:
+            self.refused(refused.number, sums.add, component, first, second, pairs)
+            (state, totals), codes = model, None
+        else:
+            codes = [int.from_bytes(written[at:at + 2], "big") for at in range(0, len(written), 2)]
+            answer = sums.add(component, first, second, pairs)
+            self.assertEqual(answer, (codes[:1024], codes[1024:]) if codes else None)
+        self.assertEqual((tuple(sums.state), list(sums.totals)), (state, totals))
+        return codes
+
+    def test_random_sums(self):
+        """Histories begun at component 0, with refused calls among them, against the model and the book."""
+        r = random.Random(4)
+        for _ in range(30):
+            sums, book = dfb.Summed(), sums_model.Book()
+            for _ in range(r.choice([8, 20, 40])):
+                component, pairs = sums_model.random_component(r, sums.next_component), sums_model.random_pairs(r)
+                first, second = sums_model.random_mask(r), sums_model.random_mask(r)
+                if r.random() < 0.1:
+                    pairs = r.choice([pairs[1:], pairs + [0], []])
+                codes = self.sums_agree(sums, (tuple(sums.state), list(sums.totals)), component, pairs, first, second)
+                try:
+                    exact = book.take(component, first, second, pairs)
+                except sums_model.Refused as refused:
+                    self.assertIsNone(codes)
+                    self.assertNotEqual(refused.number, 3)
+                    continue
+                self.assertEqual(sums.masks, book.masks)
+                self.assertEqual(codes == [], exact is None)
+                for code, total in zip(codes, exact[0] + exact[1] if exact else []):
+                    value = dfb.expand_sum(code)
+                    self.assertLessEqual(value, total)
+                    if total < 1024:
+                        self.assertEqual(value, total)
+                    else:
+                        self.assertLess(513 * (total - value), total)
+
+    def test_sums_of_any_state(self):
+        r, refusals = random.Random(5), set()
+        for _ in range(300):
+            sums = dfb.Summed()
+            place = r.choice([0, 1, 2, 3, 4, 5, 6, 7, 7, 8, r.randrange(256)])
+            masks = [sums_model.random_mask(r) for _ in range(2)]
+            sums.state[:] = place, *masks
+            for run, mask in enumerate(masks):
+                most = 2**31 * sum(mask >> n & 1 for n in range(min(place, 8)))
+                sums.totals[1024 * run : 1024 * run + 1024] = r.choices([0, most, r.randrange(most + 1)], k=1024)
+                if r.random() < 0.2:
+                    sums.totals[1024 * run + r.randrange(1024)] = r.choice([most + 1, 2**63 + most, 2**64 - 1, most])
+            component, pairs = sums_model.random_component(r, place), sums_model.random_pairs(r)
+            if r.random() < 0.1:
+                pairs = pairs[1:]
+            given = tuple(sums.state), list(sums.totals)
+            refusals.add(self.sums_agree(sums, given, component, pairs, *(sums_model.random_mask(r) for _ in range(2))) is None)
+        self.assertEqual(refusals, {False, True})
+
     def test_numbers_that_do_not_fit(self):
-        board, log = dfb.Board(), dfb.CountedLog(bytearray(99))
+        board, log, sums = dfb.Board(), dfb.CountedLog(bytearray(99)), dfb.Summed()
         for function, arguments in (
             (board.command, (0x130, 0)),
             (board.command, (0x30, 0x10000)),
@@ -427,10 +549,17 @@ class Python(unittest.TestCase):
             (dfb.snapshot_write, ([0] * 6 + [1, 0, 0, 2**32], [])),
             (dfb.snapshot_write, ([0, 0, 0, 0, 0, 1, 1, 0, 0, 0], [32768] * 128)),
             (dfb.snapshot_write, ([0, 0, 0, 0, 0, 1, 1, 0, 0, 0], [-32769] * 128)),
+            (sums.add, (256, 255, 255, [1] * 2048)),
+            (sums.add, (-1, 255, 255, [1] * 2048)),
+            (sums.add, (0, 256, 255, [1] * 2048)),
+            (sums.add, (0, 255, -1, [1] * 2048)),
+            (sums.add, (0, 255, 255, [32768] * 2048)),
+            (sums.add, (0, 255, 255, [1] * 2047 + [-32769])),
         ):
             self.assertRaises(OverflowError, function, *arguments)
         self.assertEqual(bytes(board.state), bytes(2 * dfb.STATE))
         self.assertEqual((log.log, log.used), (bytes(99), 0))
+        self.assertEqual((bytes(sums.state), bytes(sums.totals)), (bytes(dfb.SUM_STATE), bytes(8 * dfb.SUM_TOTALS)))
 
 
 class Library(unittest.TestCase):

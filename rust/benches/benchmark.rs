@@ -1,7 +1,7 @@
-//! Nanoseconds of tick, coarse totals, listing, check of a command list, pack, snapshot packets read and written, and a day's log with counts,
-//! without them, and counted by the walk: the proved library beside plain C and plain Rust, which make the same checks, in one run on the same
-//! inputs. Each figure is the best of many rounds (DFB_ROUNDS, 60 unless set; a third of them for the day's log). Before a row is timed, all
-//! must agree.
+//! Nanoseconds of tick, coarse totals, listing, check of a command list, pack, snapshot packets read and written, components of summed
+//! spectra, and a day's log with counts, without them, and counted by the walk: the proved library beside plain C and plain Rust, which make
+//! the same checks, in one run on the same inputs. Each figure is the best of many rounds (DFB_ROUNDS, 60 unless set; a third of them for the
+//! day's log). Before a row is timed, all must agree.
 #[path = "../../bench/implementations.rs"]
 mod implementations;
 #[path = "../tests/differential/model.rs"]
@@ -24,6 +24,7 @@ const CHECKS: usize = 4;
 const PACKS: usize = 4000;
 const CONVERSIONS: usize = 4000;
 const PACKETS: usize = 1000;
+const COMPONENTS: usize = 400;
 
 /// Spectra that the ticks take in turn.
 struct Spectra(Vec<Vec<u32>>);
@@ -79,6 +80,57 @@ impl Ticks {
             }
             let powers = black_box(spectra.at(tick));
             answers += (implementation.tick)(&mut board.state, &mut board.totals, powers, &mut board.out) as u64;
+        }
+        answers
+    }
+}
+
+/// The memory of a summed spectrum.
+#[derive(Clone, PartialEq)]
+struct Sum {
+    state: [u8; dfb::SUM_STATE],
+    totals: Vec<u64>,
+    out: Vec<u8>,
+}
+
+/// Components of one kind: the state that they start from, and whether it is put back before each.
+struct Components {
+    name: &'static str,
+    state: [u8; dfb::SUM_STATE],
+    again: bool,
+}
+
+/// The time of a component has what puts the three numbers of the state back, except for all eight, which come in turn. Totals are not put
+/// back. They are 0 at first and stay sound: those at component 1 grow, and those before an eighth component are the zeros of the one before.
+const SUMS: [Components; 5] = [
+    Components { name: "sum, component outside both masks", state: [1, 0x01, 0x01], again: true },
+    Components { name: "sum, component in one mask", state: [1, 0x03, 0x01], again: true },
+    Components { name: "sum, component in both masks", state: [1, 0x03, 0x03], again: true },
+    Components { name: "sum, eighth component, in both masks", state: [7, 0xFF, 0xFF], again: true },
+    Components { name: "sum, mean of eight components, in both masks", state: [0, 0xFF, 0xFF], again: false },
+];
+
+impl Components {
+    fn start(&self) -> Sum {
+        Sum { state: self.state, totals: vec![0; dfb::SUM_TOTALS], out: vec![0; dfb::SUM_OUTPUT] }
+    }
+
+    /// Pairs, so small where the totals grow that those of all components stay under 2^31.
+    fn pairs(&self) -> Vec<i16> {
+        let (mut r, shift) = (Random::new(6), if self.state[0] == 1 { 5 } else { 0 });
+        (0..dfb::SUM_PAIRS).map(|_| r.next() as i16 >> shift).collect()
+    }
+
+    /// Adds components; the sum of the answers.
+    fn run(&self, implementation: &Implementation, sum: &mut Sum, pairs: &[i16]) -> u64 {
+        let mut answers = 0;
+        for _ in 0..COMPONENTS {
+            if self.again {
+                sum.state = *black_box(&self.state);
+            }
+            let ([component, first, second], pairs) = (sum.state, black_box(pairs));
+            let Sum { state, totals, out } = &mut *sum;
+            answers += (implementation.sum_component)(state, totals, component, [first, second], pairs, out) as u64;
         }
         answers
     }
@@ -245,6 +297,29 @@ impl Bench {
             nanoseconds(PACKETS, || (0..PACKETS).map(|_| write()).sum())
         });
         self.row(&format!("snapshot packet of {components} components, written"), &best, false);
+    }
+
+    fn sum(&self, components: &Components) {
+        let (start, pairs) = (components.start(), components.pairs());
+        let mut results: Vec<(u64, Sum)> = vec![];
+        for implementation in &self.implementations {
+            let mut sum = start.clone();
+            results.push((components.run(implementation, &mut sum, &pairs), sum));
+        }
+        let name = components.name;
+        assert!(results.iter().all(|result| *result == results[0]), "{name}: the implementations differ");
+        let eighths = match components.state[0] {
+            0 => COMPONENTS / 8,
+            7 => COMPONENTS,
+            _ => 0,
+        };
+        assert_eq!(results[0].0, (eighths * dfb::SUM_OUTPUT) as u64, "{name}: a component is refused");
+
+        let best = self.best(|implementation| {
+            let mut sum = start.clone();
+            nanoseconds(COMPONENTS, || components.run(implementation, &mut sum, &pairs))
+        });
+        self.row(name, &best, false);
     }
 
     /// A day's log, written with counts, written by append one record at a time, and counted by the walk.
@@ -425,6 +500,7 @@ fn main() {
     bench.check_commands(&command_list(&mut r));
     bench.pack();
     [8, 0].into_iter().for_each(|components| bench.snapshot(components));
+    SUMS.iter().for_each(|components| bench.sum(components));
     bench.day(&Day::new(&mut r));
     println!("interval of 16,000 criteria: {:.1} ns", interval(rounds));
 

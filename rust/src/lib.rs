@@ -41,6 +41,19 @@ pub const MOST_SNAPSHOT_SAMPLES: usize = 1024;
 /// No snapshot packet has more bytes.
 pub const MOST_SNAPSHOT_BYTES: usize = 2068;
 
+/// The number of components of a summed spectrum.
+pub const SUM_COMPONENTS: u8 = 8;
+/// The number of bins of each.
+pub const SUM_BINS: usize = 1024;
+/// The length of a sum's state: the next component, the first and the second mask. All 0 at the start.
+pub const SUM_STATE: usize = 3;
+/// The length of a sum's totals: 1,024 of the first mask, then 1,024 of the second. All 0 at the start.
+pub const SUM_TOTALS: usize = 2048;
+/// The length of a component: 1,024 pairs, real part first.
+pub const SUM_PAIRS: usize = 2048;
+/// The least length of a sum's output.
+pub const SUM_OUTPUT: usize = 4096;
+
 /// A refusal, with its number in the rules. 13 is not used.
 #[derive(Clone, Copy, Debug, PartialEq, Eq)]
 #[repr(u8)]
@@ -60,6 +73,7 @@ pub enum Refusal {
     UnknownPacket = 14,
     PacketOutOfRange = 15,
     WrongPacketLength = 16,
+    ComponentOutOfOrder = 17,
     KindNotInProfile = 18,
     SecondFalls = 19,
     ValueAltered = 20,
@@ -83,7 +97,7 @@ impl Refusal {
         match self {
             Refusal::UnknownCommand => "the command ID is outside 0x30 to 0x36",
             Refusal::WrongLength => "a list has a wrong length, an output is too small, or a place or number does not fit",
-            Refusal::UnsoundState => "the state is not one that the board, the slots or the counting writer can have left",
+            Refusal::UnsoundState => "the state is not one that the board, the slots, the counting writer or a sum can have left",
             Refusal::UnknownApid => "the APID is none of the seven, or 0x4E where a waveform's is wanted",
             Refusal::IncompleteSet => "the words are not exactly one set",
             Refusal::NoProcessorEnabled => "a SPEC word with no processor enabled",
@@ -96,6 +110,7 @@ impl Refusal {
             Refusal::UnknownPacket => "the packet's SID is not 33 or its auxiliary length is not 8",
             Refusal::PacketOutOfRange => "the total of packets is over 3072, or the packet number is not below the total",
             Refusal::WrongPacketLength => "the packet is under 20 bytes, or its bytes or samples are not as many as its mask says",
+            Refusal::ComponentOutOfOrder => "the component is not the next one",
             Refusal::KindNotInProfile => "the record is neither a command nor a second mark",
             Refusal::SecondFalls => "the second is smaller than that of the mark before it",
             Refusal::ValueAltered => "the register would store another value than the one sent",
@@ -126,6 +141,7 @@ impl Refusal {
             14 => Refusal::UnknownPacket,
             15 => Refusal::PacketOutOfRange,
             16 => Refusal::WrongPacketLength,
+            17 => Refusal::ComponentOutOfOrder,
             18 => Refusal::KindNotInProfile,
             19 => Refusal::SecondFalls,
             20 => Refusal::ValueAltered,
@@ -374,6 +390,19 @@ pub mod ffi {
             packet: *mut u8,
             packet_len: usize,
         ) -> u32;
+        pub fn dfb_sum_component(
+            state: *mut u8,
+            state_len: usize,
+            totals: *mut u64,
+            totals_len: usize,
+            component: u8,
+            first_mask: u8,
+            second_mask: u8,
+            pairs: *const i16,
+            pairs_len: usize,
+            out: *mut u8,
+            out_len: usize,
+        ) -> u32;
     }
 }
 
@@ -527,6 +556,56 @@ impl<'a> CountedLog<'a> {
     /// The number of finished sets of an APID; None for an APID that is not one of the seven.
     pub fn count(&self, apid: u8) -> Option<u64> {
         self.tally.count(apid)
+    }
+}
+
+/// A summed spectrum of the LFR (FSUM): its state and its totals, kept between the calls.
+///
+/// ```
+/// let mut sum = dfb::Summed::start();
+/// let mut out = [0; dfb::SUM_OUTPUT];
+/// let pairs = [3, -4].repeat(dfb::SUM_BINS); // power 25 in each bin
+/// for component in 0..7 {
+///     assert_eq!(sum.add(component, 0xFF, 0x01, &pairs, &mut out)?, 0);
+/// }
+/// assert_eq!((sum.next_component(), sum.masks()), (7, (0xFF, 0x01)));
+/// assert_eq!((sum.totals()[0], sum.totals()[dfb::SUM_BINS]), (7 * 25, 25));
+/// assert_eq!(sum.add(0, 0xFF, 0x01, &pairs, &mut out), Err(dfb::Refusal::ComponentOutOfOrder));
+/// assert_eq!(sum.add(7, 0xFF, 0x01, &pairs, &mut out)?, dfb::SUM_OUTPUT);
+/// assert_eq!((&out[..2], &out[2048..2050]), (&[0, 8 * 25][..], &[0, 25][..])); // the first code of each mask
+/// assert_eq!((sum.next_component(), *sum.totals()), (0, [0; dfb::SUM_TOTALS]));
+/// # Ok::<(), dfb::Refusal>(())
+/// ```
+#[derive(Clone, Debug, PartialEq, Eq)]
+pub struct Summed {
+    state: [u8; SUM_STATE],
+    totals: [u64; SUM_TOTALS],
+}
+
+impl Summed {
+    /// Nothing summed: component 0 is next, masks and totals are 0.
+    pub fn start() -> Summed {
+        Summed { state: [0; SUM_STATE], totals: [0; SUM_TOTALS] }
+    }
+
+    /// As the function `sum_component`.
+    pub fn add(&mut self, component: u8, first_mask: u8, second_mask: u8, pairs: &[i16], out: &mut [u8]) -> Result<usize, Refusal> {
+        sum_component(&mut self.state, &mut self.totals, component, first_mask, second_mask, pairs, out)
+    }
+
+    /// The component that is next, 0 to 7.
+    pub fn next_component(&self) -> u8 {
+        self.state[0]
+    }
+
+    /// The first and the second mask, those of the last component 0; both 0 before it.
+    pub fn masks(&self) -> (u8, u8) {
+        (self.state[1], self.state[2])
+    }
+
+    /// The totals of the components so far: 1,024 of the first mask, then 1,024 of the second.
+    pub fn totals(&self) -> &[u64; SUM_TOTALS] {
+        &self.totals
     }
 }
 
@@ -861,6 +940,36 @@ pub fn snapshot_write(header: &SnapshotHeader, samples: &[i16], packet: &mut [u8
     // SAFETY: as in command.
     let number = unsafe {
         ffi::dfb_snapshot_write(numbers.as_ptr(), numbers.len(), samples.as_ptr(), samples.len(), packet.as_mut_ptr(), packet.len())
+    };
+    answer(number.into(), REFUSED_16).map(|bytes| bytes as usize)
+}
+
+/// Adds one component of a summed spectrum to the totals of each mask that has it: the bytes written to the start of `out`, `SUM_OUTPUT` with
+/// component 7 and 0 before it. The masks of component 0 hold for all eight. Refusals 2, 3, 17.
+pub fn sum_component(
+    state: &mut [u8],
+    totals: &mut [u64],
+    component: u8,
+    first_mask: u8,
+    second_mask: u8,
+    pairs: &[i16],
+    out: &mut [u8],
+) -> Result<usize, Refusal> {
+    // SAFETY: as in command.
+    let number = unsafe {
+        ffi::dfb_sum_component(
+            state.as_mut_ptr(),
+            state.len(),
+            totals.as_mut_ptr(),
+            totals.len(),
+            component,
+            first_mask,
+            second_mask,
+            pairs.as_ptr(),
+            pairs.len(),
+            out.as_mut_ptr(),
+            out.len(),
+        )
     };
     answer(number.into(), REFUSED_16).map(|bytes| bytes as usize)
 }

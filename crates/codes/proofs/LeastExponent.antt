@@ -4,8 +4,9 @@ use mathlib.Core.Path.{_≡_, refl, sym, ap, _∙_, subst}
 use mathlib.Core.Bool.{Bool, true, false}
 use mathlib.Core.Logic.{_⊎_, inl, inr}
 use Prim.Native.Nat.{ℕ, zero, suc, _+_, _-_, _*_, _/_, _^_, _≤_, _<_, zero-le}
-use native.Mathlib.Nat.{le-trans, le-of-eq, le-of-suc-le-suc, lt-of-not-le, not-le-of-lt, lt-of-lt-of-le, eq-or-lt-of-le, pow-suc, zero-lt-suc, le-div-iff-mul-le, div-lt-iff-lt-mul}
+use native.Mathlib.Nat.{le-refl, le-trans, le-of-eq, le-of-suc-le-suc, le-add-right, lt-of-not-le, not-le-of-lt, lt-of-le-of-lt, lt-of-lt-of-le, eq-or-lt-of-le, pow-suc, zero-lt-suc, le-div-iff-mul-le, div-lt-iff-lt-mul}
 use native.Mathlib.Omega.{arith}
+use lib.Bits.{bitOr, or-lt, or-add-and, and-le-l, and-le-r}
 use lib.Pow.{pow-pos, pow-mono, pow-add, shr-lt}
 use lib.Count.{leadingZeros, leading-length}
 use borrow.Author.Tests.{lt-ltb, le-ltb, ltb-true}
@@ -53,23 +54,39 @@ exponent-unique w v e least =
     bound zero least = zero-le
     bound (suc e) least = omega (arith, below-pow e, pow-mono {i = e} {j = w + e} (omega arith), least-le w v e least)
 
--- the leading zeros of a value below 2 ^ k give the least exponent
-leading-least : (w k v : ℕ) → v < 2 ^ k → Least w v (k - leadingZeros k v - w)
-leading-least w k v h =
-    let s = leading-length k v h in
+-- the leading zeros of a number below 2 ^ k give the least exponent of v, where from 2 ^ w on the number has as many digits as v
+leading-least : (w k v n : ℕ) → v ≤ n → n < 2 ^ k → ((j : ℕ) → v < 2 ^ (w + j) → n < 2 ^ (w + j)) → Least w v (k - leadingZeros k n - w)
+leading-least w k v n over h long =
+    let s = leading-length k n h in
     let m = s .0 in
-    let e : ℕ = k - leadingZeros k v - w in
+    let e : ℕ = k - leadingZeros k n - w in
     record {
-      fitting = shr-lt w e (lt-of-lt-of-le (s .2) (pow-mono {i = m} {j = w + e} (omega (arith, s .1))));
-      before = λ j l. le-over w v j (omega (arith, s .3, pow-suc 2 (w + j), pow-mono {i = suc (w + j)} {j = m} (omega (arith, s .1))));
+      fitting = shr-lt w e (lt-of-le-of-lt over (lt-of-lt-of-le (s .2) (pow-mono {i = m} {j = w + e} (omega (arith, s .1)))));
+      before = λ j l. le-over w v j (le-of-suc-le-suc (lt-of-not-le (λ g. absurd (omega (arith, long j g, s .3, pow-suc 2 (w + j), pow-mono {i = suc (w + j)} {j = m} (omega (arith, s .1)))))));
     }
 
--- the one fact of both compressors and of the bands, over the mantissa width
+own-least : (w k v : ℕ) → v < 2 ^ k → Least w v (k - leadingZeros k v - w)
+own-least w k v h = leading-least w k v v (le-refl v) h (λ j g. g)
+
+-- the one fact of `exponent` and of the bands, over the mantissa width
 pub exponent-leading : (w k v : ℕ) → v < 2 ^ k → exponent w v ≡ k - leadingZeros k v - w
-exponent-leading w k v h = exponent-unique w v (k - leadingZeros k v - w) (leading-least w k v h)
+exponent-leading w k v h = exponent-unique w v (k - leadingZeros k v - w) (own-least w k v h)
+
+-- the same of a value with its low w bits set, which has w digits or more, so that none of the three is more than k
+pub exponent-or : (w k v : ℕ) → v < 2 ^ k → w ≤ k → exponent w v + w + leadingZeros k (bitOr v (2 ^ w - 1)) ≡ k
+exponent-or w k v h wide =
+    let ones : ℕ = 2 ^ w - 1 in
+    let n : ℕ = bitOr v ones in
+    let within : (j : ℕ) → w ≤ j → v < 2 ^ j → n < 2 ^ j = λ j l g. or-lt j v ones g (omega (arith, pow-pos w, pow-mono {i = w} {j = j} l)) in
+    let s = leading-length k n (within k wide h) in
+    let digits : w ≤ s .0 = le-of-suc-le-suc (lt-of-not-le (λ g. absurd (omega (arith, s .2, or-add-and v ones, and-le-l v ones, pow-pos (s .0), pow-suc 2 (s .0), pow-mono {i = suc (s .0)} {j = w} g)))) in
+    let e : exponent w v ≡ k - leadingZeros k n - w =
+    exponent-unique w v (k - leadingZeros k n - w)
+    (leading-least w k v n (omega (arith, or-add-and v ones, and-le-r v ones)) (within k wide h) (λ j. within (w + j) (le-add-right w j))) in
+    omega (arith, s .1)
 
 pub exponent-least : (w v : ℕ) → Least w v (exponent w v)
-exponent-least w v = subst (λ (e : ℕ). Least w v e) (sym (exponent-leading w v v (below-pow v))) (leading-least w v v (below-pow v))
+exponent-least w v = subst (λ (e : ℕ). Least w v e) (sym (exponent-leading w v v (below-pow v))) (own-least w v v (below-pow v))
 
 pub least-exponent : LeastExponent
 least-exponent w v = (

@@ -39,7 +39,8 @@ pub fn compress_band(v: u32) -> u8
 pub fn compress_sum(v: u64) -> u16
     ensures { λ r. ⌜ r ≡ sumCode v ⌝ }
 {
-    let e = exponent(v, 10);
+    // exponent(v, 10) without a choice: with its low ten bits set a value has ten binary digits or more
+    let e = 54 - u64::leading_zeros(v | 1023);
     let m = v >> e;
     ((e as u64) * 1024 + m) as u16
 }

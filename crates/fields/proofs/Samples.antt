@@ -1,49 +1,35 @@
 -- Laws of samples of two bytes each. Assumes nothing.
-use Prim.Native.Nat.{ℕ, zero, suc, _+_, _*_, _/_, _%_, _≤_, _<_}
+use Prim.Native.Nat.{ℕ, suc, _+_, _*_, _/_, _%_, _≤_, _<_}
 use mathlib.Core.Path.{_≡_, refl, sym, ap, ap₂, subst, _∙_}
-use mathlib.Core.List.{List, [], _∷_, _++_}
-use native.Mathlib.Numerals.{towards-suc}
+use mathlib.Core.List.{List, [], _∷_, _++_, append-nil}
 use native.Mathlib.Omega.{arith}
 use borrow.Author.Tests.{ltb-true, ltb-false, le-leb}
 use lib.Dec.{ltb}
 use lib.IntN.{ℤ, pos}
-use lib.ListN.{length, getD, set, take, drop, length-drop}
-use lib.Seq.{getD-append-add, getD-drop, take-at, drop-at, sets}
+use lib.ListN.{length, getD, take, drop, length-drop}
+use lib.Seq.{getD-drop, take-at, drop-at}
 use lib.Signed.{mag}
 use Rattle.lists.specs.Tables.{tabulate, concatTo, overwrite}
 use Rattle.lists.proofs.Choices.{cond-at}
-use Rattle.lists.proofs.Tables.{length-tabulate, getD-tabulate, tabulate-of, tabulate-ext, length-parts, getD-concatTo, concatTo-more, concatTo-ext, grid-of}
-use Rattle.lists.proofs.Overwriting.{front-more}
+use Rattle.lists.proofs.Tables.{length-tabulate, getD-tabulate, tabulate-of, tabulate-ext, concatTo-ext, grid-of}
 use Rattle.words.specs.Sample.{bitsOf, sampleOf, Are16}
 use Rattle.words.specs.Words.{pairBytes, pairAt, pairOf, AreBytes}
-use Rattle.words.proofs.Signed.{sample-of-bits, bits-of-sample}
+use Rattle.words.proofs.Signed.{sample-of-bits, bits-of-sample, sample-at}
 use Rattle.fields.specs.Samples.{sampleBytes, samplesAt, putOutcome}
 use Rattle.fields.specs.Private.{reversedSample, reversedSamples, exchanged, exchangedSamples}
 use Rattle.fields.proofs.Numbers.{byte-at}
+use Rattle.fields.proofs.Pairs.{pairs-length, pair-of}
 
--- the bytes of sample i
+-- the bits of sample i, and its bytes
+abbrev pub bitsAt : List ℤ → ℕ → ℕ
+bitsAt samples i = bitsOf (getD samples i (pos 0))
+
 abbrev pub bytesOf : List ℤ → ℕ → List ℕ
-bytesOf samples i = pairBytes (bitsOf (getD samples i (pos 0)))
-
-pub parts-length : (samples : List ℤ) (n : ℕ) → length (concatTo n (bytesOf samples)) ≡ 2 * n
-parts-length samples n = length-parts n (bytesOf samples) 2 (λ i. refl) ∙ omega arith
-
--- the bytes of one sample more
-pub pair-more : (samples : List ℤ) (l out : List ℕ) (i bits : ℕ) → i < length samples → 2 * length samples ≤ length l →
-    out ≡ concatTo i (bytesOf samples) ++ drop (2 * i) l → bits ≡ bitsOf (getD samples i (pos 0)) →
-    set (set out (2 * i) (bits / 256)) (2 * i + 1) (bits % 256) ≡ concatTo (i + 1) (bytesOf samples) ++ drop (2 * (i + 1)) l
-pair-more samples l out i bits h room e same =
-    let done = concatTo i (bytesOf samples) in
-    let next : 2 * (i + 1) ≡ 2 * i + 2 = omega arith in
-    let stored : set (set (done ++ drop (2 * i) l) (2 * i) (bits / 256)) (2 * i + 1) (bits % 256) ≡ sets (done ++ drop (2 * i) l) (2 * i) (pairBytes bits) = simp towards-suc in
-    ap (λ (o : List ℕ). set (set o (2 * i) (bits / 256)) (2 * i + 1) (bits % 256)) e
-    ∙ stored
-    ∙ front-more done (pairBytes bits) l (2 * i) (parts-length samples i) (omega arith)
-    ∙ rw (concatTo-more (bytesOf samples) i, next, ← same)
+bytesOf samples i = pairBytes (bitsAt samples i)
 
 pub bytes-length : (samples : List ℤ) → length (sampleBytes samples) ≡ 2 * length samples
 unfolding sampleBytes
-bytes-length samples = parts-length samples (length samples)
+bytes-length samples = pairs-length (bitsAt samples) (length samples)
 
 -- what writing samples leaves where there is room
 pub put-buffer : (samples : List ℤ) (out : List ℕ) → 2 * length samples ≤ length out → putOutcome samples out .buffer ≡ overwrite (sampleBytes samples) out
@@ -96,39 +82,16 @@ samples-drop n bytes at =
     (ap₂ pairOf (getD-drop at bytes (0 + 2 * i) 0 ∙ ap (λ (j : ℕ). getD bytes j 0) high)
     (getD-drop at bytes (0 + 2 * i + 1) 0 ∙ ap (λ (j : ℕ). getD bytes j 0) low)))
 
--- a sample of a list has 16 bits
-sample-at : (samples : List ℤ) → Are16 samples → (i : ℕ) → i < length samples → mag (getD samples i (pos 0)) < 32768
-sample-at [] are i h = absurd (omega arith)
-sample-at (z ∷ samples) are zero h = are .0
-sample-at (z ∷ samples) are (suc i) h = sample-at samples (are .1) i (omega arith)
-
--- byte k of sample i
-byte-of : (samples : List ℤ) (before : List ℕ) (i k : ℕ) → i < length samples → k < 2 →
-    getD (before ++ sampleBytes samples) (length before + (2 * i + k)) 0 ≡ getD (bytesOf samples i) k 0
-unfolding sampleBytes
-byte-of samples before i k h l =
-    let place : 2 * i + k ≡ length (concatTo i (bytesOf samples)) + k = omega (arith, parts-length samples i) in
-    getD-append-add before (concatTo (length samples) (bytesOf samples)) (2 * i + k) 0
-    ∙ ap (λ (j : ℕ). getD (concatTo (length samples) (bytesOf samples)) j 0) place
-    ∙ getD-concatTo (length samples) (bytesOf samples) 0 i h k l
-
 pub samples-return : (samples : List ℤ) (before : List ℕ) → Are16 samples →
     samplesAt (length samples) (before ++ sampleBytes samples) (length before) ≡ samples
-unfolding samplesAt
+unfolding samplesAt sampleBytes
 samples-return samples before are =
     sym (tabulate-of (length samples) _ (pos 0) samples refl (λ i h. sym (at-each i h)))
   where
-    at-each : (i : ℕ) → i < length samples → sampleOf (pairAt (before ++ sampleBytes samples) (length before + 2 * i)) ≡ getD samples i (pos 0)
+    at-each : (i : ℕ) → i < length samples → sampleOf (pairAt (before ++ concatTo (length samples) (bytesOf samples)) (length before + 2 * i)) ≡ getD samples i (pos 0)
     at-each i h =
-        let bits = bitsOf (getD samples i (pos 0)) in
-        let high : length before + 2 * i ≡ length before + (2 * i + 0) = omega arith in
-        let low : length before + 2 * i + 1 ≡ length before + (2 * i + 1) = omega arith in
-        let joined : bits / 256 * 256 + bits % 256 ≡ bits = omega arith in
-        ap sampleOf
-        (ap₂ pairOf
-        (ap (λ (j : ℕ). getD (before ++ sampleBytes samples) j 0) high ∙ byte-of samples before i 0 h (omega arith))
-        (ap (λ (j : ℕ). getD (before ++ sampleBytes samples) j 0) low ∙ byte-of samples before i 1 h (omega arith))
-        ∙ joined)
+        ap (λ (l : List ℕ). sampleOf (pairAt (before ++ l) (length before + 2 * i))) (sym (append-nil (concatTo (length samples) (bytesOf samples))))
+        ∙ ap sampleOf (pair-of (bitsAt samples) before [] (length samples) i h)
         ∙ sample-of-bits (getD samples i (pos 0)) (sample-at samples are i h)
 
 pub sample-bytes-return : (n : ℕ) (bytes : List ℕ) (at : ℕ) → AreBytes bytes → length bytes ≡ at + 2 * n →

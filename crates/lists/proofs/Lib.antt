@@ -8,3 +8,4 @@ pub mod Best
 pub mod Changes
 pub mod Cuts
 pub mod Maps
+pub mod Bits

@@ -1,4 +1,4 @@
--- A run of entries behind another run: of tests, of a table, and of a table that is written over a list. Assumes nothing.
+-- A run of entries behind another run: of tests, of a table, of a concatenation, and of a table that is written over a list. Assumes nothing.
 use Prim.Native.Nat.{ℕ, zero, suc, _+_, _*_}
 use mathlib.Core.Path.{_≡_, sym, ap, _∙_}
 use mathlib.Core.Bool.{Bool, _&&_, and-true, and-assoc}
@@ -7,7 +7,7 @@ use native.Mathlib.Nat.{add-zero, add-suc, zero-mul, suc-mul}
 use native.Mathlib.Numerals.{add-one}
 use lib.ListN.{take, drop}
 use Rattle.lists.specs.Sums.{allTo}
-use Rattle.lists.specs.Tables.{tabulate, overwrite}
+use Rattle.lists.specs.Tables.{tabulate, concatTo, overwrite}
 use Rattle.lists.proofs.Tables.{length-tabulate}
 use Rattle.lists.proofs.Overwriting.{overwrite-part}
 
@@ -34,6 +34,12 @@ module _ {A : Type 0} where
   tabulate-add f a zero = rw (add-zero a) (sym (append-nil (tabulate a f)))
   tabulate-add f a (suc n) =
       rw add-suc (ap (λ (l : List A). l ++ (f (a + n) ∷ [])) (tabulate-add f a n) ∙ append-assoc (tabulate a f) (tabulate n (λ j. f (a + j))) (f (a + n) ∷ []))
+
+  pub concatTo-add : (f : ℕ → List A) (a n : ℕ) → concatTo (a + n) f ≡ concatTo a f ++ concatTo n (λ j. f (a + j))
+  unfolding concatTo
+  concatTo-add f a zero = rw (add-zero a) (sym (append-nil (concatTo a f)))
+  concatTo-add f a (suc n) =
+      rw add-suc (ap (λ (l : List A). l ++ f (a + n)) (concatTo-add f a n) ∙ append-assoc (concatTo a f) (concatTo n (λ j. f (a + j))) (f (a + n)))
 
   -- the first entries of a table stand over l, and the n behind them take their place
   pub table-run : (f : ℕ → A) (l : List A) (a n m : ℕ) (l′ ys : List A) → l′ ≡ overwrite (tabulate a f) l →

@@ -9,7 +9,9 @@ use lib.Count.{ones}
 use lib.Dec.{ltb, eqb}
 use lib.IntN.{ℤ}
 use lib.ListN.{length, getD, take, drop, length-append}
+use Rattle.lists.specs.Bits.{bit}
 use Rattle.lists.proofs.Sums.{sumTo-bound}
+use Rattle.lists.proofs.Bits.{ones-are-bits}
 use Rattle.lists.proofs.Choices.{by-cases, both}
 use Rattle.refusal.specs.Outcome.{given}
 use Rattle.refusal.proofs.Outcomes.{refused-given, given-same}
@@ -18,10 +20,9 @@ use Rattle.fields.specs.Fields.{numberIn, numbersIn, fieldBytes, FitFields}
 use Rattle.fields.proofs.Samples.{bytes-length}
 use Rattle.fields.proofs.Theorems.{numbers-return, bytes-return, numbers-fit}
 use Rattle.snapshot.specs.declared.Header.{Header}
-use Rattle.snapshot.specs.Packet.{sid, auxiliaryLength, fields, fieldNumbers, headerBytes, packetBytes, headerIn, bit, components, packetLength, isSnapshot, inRange}
+use Rattle.snapshot.specs.Packet.{sid, auxiliaryLength, fields, fieldNumbers, headerBytes, packetBytes, headerIn, components, packetLength, isSnapshot, inRange}
 use Rattle.snapshot.specs.Calls.{headerFound}
 use Rattle.snapshot.specs.Claims.{Places, HeaderFits}
-use Rattle.snapshot.proofs.Ones.{ones-are-bits}
 
 pub places : Places
 places = record { follow = (refl, (refl, (refl, (refl, (refl, (refl, (refl, (refl, (refl, (refl, (refl, (refl, tt)))))))))))); end = refl }

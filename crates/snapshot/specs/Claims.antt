@@ -1,19 +1,18 @@
 -- 02, ticket 1: what is claimed of the packets of a snapshot. Assumes nothing.
-use Prim.Native.Nat.{ℕ, _+_, _*_, _^_, _≤_, _<_}
+use Prim.Native.Nat.{ℕ, _+_, _*_, _≤_, _<_}
 use mathlib.Core.Path.{_≡_}
 use mathlib.Core.Logic.{_↔_}
 use mathlib.Core.List.{List, [], _∷_, _++_, map}
 use lib.Count.{ones}
 use lib.IntN.{ℤ, pos, negsuc}
 use lib.ListN.{length, take, replicate}
-use Rattle.lists.specs.Sums.{sumTo}
 use Rattle.lists.specs.Tables.{overwrite}
 use Rattle.refusal.specs.Outcome.{Outcome, given, refused}
 use Rattle.words.specs.Sample.{Are16}
 use Rattle.words.specs.Words.{AreBytes}
 use Rattle.fields.specs.Fields.{sizeOf, FollowFrom, FitFields}
 use Rattle.snapshot.specs.declared.Header.{Header}
-use Rattle.snapshot.specs.Packet.{fields, fieldNumbers, packetBytes, bit, components, sampleCount}
+use Rattle.snapshot.specs.Packet.{fields, fieldNumbers, packetBytes, components, sampleCount}
 use Rattle.snapshot.specs.Calls.{headerFound, Found, ReadLeft, packetRead, packetWritten}
 
 -- ---- the fields and the mask
@@ -23,11 +22,7 @@ pub record Places : Type 0 where
   pub follow : FollowFrom 0 fields
   pub end : sizeOf fields ≡ 20
 
--- the count of ones of a number of k bits is the number of its bits that are one
-abbrev pub OnesAreBits : Type 0
-OnesAreBits = (k n : ℕ) → n < 2 ^ k → ones n ≡ sumTo k (bit n)
-
--- the components of a mask are its count of ones
+-- the components of a mask are its count of ones (`OnesAreBits`, lists)
 abbrev pub ComponentsAreOnes : Type 0
 ComponentsAreOnes = (mask : ℕ) → mask < 256 → components mask ≡ ones mask
 

@@ -1,11 +1,12 @@
 -- 02, ticket 1: one packet of a regular snapshot (000, TM_LF_RSWF). Its first 20 bytes are numbers in fields, high byte first; from byte 20 on
 -- stand 128 samples for each one bit of the component mask. Assumes nothing.
-use Prim.Native.Nat.{ℕ, _+_, _*_, _/_, _%_, _^_}
+use Prim.Native.Nat.{ℕ, _+_, _*_}
 use mathlib.Core.Bool.{Bool, _&&_}
 use mathlib.Core.List.{List, [], _∷_, _++_}
 use lib.Dec.{leb, ltb, eqb}
 use lib.IntN.{ℤ}
 use Rattle.lists.specs.Sums.{sumTo}
+use Rattle.lists.specs.Bits.{bit}
 use Rattle.fields.specs.Fields.{Field, numberIn, fieldBytes}
 use Rattle.fields.specs.Samples.{sampleBytes}
 use Rattle.snapshot.specs.declared.Header.{Header}
@@ -85,10 +86,7 @@ headerIn bytes =
 
 -- ---- what a packet is to be
 
--- bit n of a mask, and how many of its eight bits are one: the components
-abbrev pub bit : ℕ → ℕ → ℕ
-bit mask n = mask / 2 ^ n % 2
-
+-- how many of a mask's eight bits are one: the components
 unfoldable pub components : ℕ → ℕ
 components mask = sumTo 8 (bit mask)
 

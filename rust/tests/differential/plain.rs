@@ -1,9 +1,9 @@
-//! The plain C of the benchmark and its plain Rust tick, coarse totals, append, check of command lists, counted logs and snapshot packets
-//! against the model, so that it compares programs that do the same.
+//! The plain C of the benchmark and its plain Rust tick, coarse totals, append, check of command lists, counted logs, snapshot packets and
+//! summed spectra against the model, so that it compares programs that do the same.
 use crate::implementations::{plain_c, plain_rust};
 use crate::model::{self, Board, POWERS, STATE, TOTALS};
 use crate::random::{seeds, Buffer, Random};
-use crate::{board, check, coarse, counts, logs, snapshots};
+use crate::{board, check, coarse, counts, logs, snapshots, sums};
 use std::collections::BTreeMap;
 
 /// A tick's answer as a number of include/dfb.h.
@@ -136,6 +136,20 @@ fn snapshot_packets() {
         });
         for seed in seeds(10_000) {
             snapshots::compare_any(&mut Random::new(seed), &implementation, &mut Default::default());
+        }
+    }
+}
+
+#[test]
+fn summed_spectra() {
+    let mut r = Random::new(3);
+    for implementation in plain_c().into_iter().chain([plain_rust()]) {
+        sums::faulty_calls(|call, refusal| assert_eq!(sums::compare_call(&mut r, &implementation, call).err(), refusal));
+        for seed in seeds(3000) {
+            sums::compare_any(&mut Random::new(seed), &implementation, &mut BTreeMap::new());
+        }
+        for seed in seeds(50) {
+            sums::compare_history(&mut Random::new(seed), &implementation, 3);
         }
     }
 }

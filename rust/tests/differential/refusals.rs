@@ -1,10 +1,10 @@
 //! The refusals: numbers and texts, copied by hand.
 use dfb::{Refusal, RefusedAt};
 
-const REFUSALS: [(Refusal, u8, &str); 25] = [
+const REFUSALS: [(Refusal, u8, &str); 26] = [
     (Refusal::UnknownCommand, 1, "the command ID is outside 0x30 to 0x36"),
     (Refusal::WrongLength, 2, "a list has a wrong length, an output is too small, or a place or number does not fit"),
-    (Refusal::UnsoundState, 3, "the state is not one that the board, the slots or the counting writer can have left"),
+    (Refusal::UnsoundState, 3, "the state is not one that the board, the slots, the counting writer or a sum can have left"),
     (Refusal::UnknownApid, 4, "the APID is none of the seven, or 0x4E where a waveform's is wanted"),
     (Refusal::IncompleteSet, 5, "the words are not exactly one set"),
     (Refusal::NoProcessorEnabled, 6, "a SPEC word with no processor enabled"),
@@ -17,6 +17,7 @@ const REFUSALS: [(Refusal, u8, &str); 25] = [
     (Refusal::UnknownPacket, 14, "the packet's SID is not 33 or its auxiliary length is not 8"),
     (Refusal::PacketOutOfRange, 15, "the total of packets is over 3072, or the packet number is not below the total"),
     (Refusal::WrongPacketLength, 16, "the packet is under 20 bytes, or its bytes or samples are not as many as its mask says"),
+    (Refusal::ComponentOutOfOrder, 17, "the component is not the next one"),
     (Refusal::KindNotInProfile, 18, "the record is neither a command nor a second mark"),
     (Refusal::SecondFalls, 19, "the second is smaller than that of the mark before it"),
     (Refusal::ValueAltered, 20, "the register would store another value than the one sent"),

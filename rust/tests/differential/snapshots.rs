@@ -263,10 +263,10 @@ fn write_and_read(header: &SnapshotHeader, samples: &[i16]) {
 // ---- faults ----
 
 /// A refusal, and what makes a call that is refused by it.
-type Fault<'a, Call> = (u8, &'a dyn Fn(&mut Call));
+pub type Fault<'a, Call> = (u8, &'a dyn Fn(&mut Call));
 
 /// Takes every set of the faults at once, with the refusal of the first; later faults are done before earlier ones.
-fn every_set<Call: Clone>(call: &Call, faults: &[Fault<Call>], mut take: impl FnMut(&Call, Option<u8>)) {
+pub fn every_set<Call: Clone>(call: &Call, faults: &[Fault<Call>], mut take: impl FnMut(&Call, Option<u8>)) {
     for set in 0..1 << faults.len() {
         let chosen = |n: &usize| set >> n & 1 == 1;
         let mut faulty = call.clone();

@@ -13,7 +13,8 @@ use mir.ValLaws.{toZ-ofZ}
 use Rattle.lists.specs.Tables.{concatTo}
 use Rattle.words.specs.Sample.{bitsOf}
 use Rattle.fields.specs.Samples.{sampleBytes}
-use Rattle.fields.proofs.Samples.{bytesOf, parts-length, pair-more}
+use Rattle.fields.proofs.Samples.{bitsAt, bytesOf}
+use Rattle.fields.proofs.Pairs.{pairs-length, pairs-more}
 use Rattle.fields.proofs.put_each.Statement.{statement}
 use Rattle.fields.proofs.put_each.Tie as tie
 
@@ -36,7 +37,7 @@ loop-again c =
     let z = getD (a .samples .now) (l .i) (pos 0) in
     let fit : SFits w16 z = record { sfits = c .before .bits-of-arg .given } in
     let bits : c .bits-of .result ≡ bitsOf z = c .bits-of .ensures ∙ ap bitsOf (toZ-ofZ w16 z fit) in
-    (omega arith, l .inv .1, l .inv .2, simp length-set (l .inv .3), pair-more (a .samples .now) (a .out .now) (l .out) (l .i) _ (omega arith) (l .inv .2) (l .inv .4) bits)
+    (omega arith, l .inv .1, l .inv .2, simp length-set (l .inv .3), pairs-more (bitsAt (a .samples .now)) (a .out .now) (l .out) (l .i) _ (omega arith) (l .inv .4) bits)
 
 returns : tie.Need-returns Inv-loop μ-loop
 unfolding sampleBytes
@@ -45,7 +46,7 @@ returns c =
     let l = c .before .loop in
     let e : l .i ≡ length (a .samples .now) = omega arith in
     l .inv .4 ∙ ap (λ (n : ℕ). concatTo n (bytesOf (a .samples .now)) ++ drop (2 * n) (a .out .now)) e
-    ∙ ap (λ (n : ℕ). concatTo (length (a .samples .now)) (bytesOf (a .samples .now)) ++ drop n (a .out .now)) (sym (parts-length (a .samples .now) (length (a .samples .now))))
+    ∙ ap (λ (n : ℕ). concatTo (length (a .samples .now)) (bytesOf (a .samples .now)) ++ drop n (a .out .now)) (sym (pairs-length (bitsAt (a .samples .now)) (length (a .samples .now))))
 
 pub put-each-spec : {M : Type 1} → statement M
 put-each-spec =

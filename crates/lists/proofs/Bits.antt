@@ -5,10 +5,10 @@ use native.Mathlib.Nat.{zero-lt-suc, pow-suc, pow-succ', div-lt-iff-lt-mul, div-
 use native.Mathlib.Omega.{arith}
 use lib.Arith.{lt-one}
 use lib.Count.{ones, ones-step}
 use Rattle.lists.specs.Sums.{sumTo}
+use Rattle.lists.specs.Bits.{bit}
+use Rattle.lists.specs.Claims.{OnesAreBits}
 use Rattle.lists.proofs.Sums.{sumTo-add, sumTo-ext}
-use Rattle.snapshot.specs.Packet.{bit}
-use Rattle.snapshot.specs.Claims.{OnesAreBits}
 
 -- bit j of the half is bit j + 1
 half-bit : (n j : ℕ) → bit (n / 2) j ≡ bit n (1 + j)
