@@ -33,6 +33,8 @@ pub struct Implementation {
     pub snapshot_read: fn(&[u8], &mut [u32], &mut [i16]) -> u32,
     pub snapshot_write: fn(&[u32], &[i16], &mut [u8]) -> u32,
     pub sum_component: SumComponent,
+    pub export_packets: fn(u8, &mut [u16], &[i16], &mut [u8]) -> u64,
+    pub import_packet: fn(&[u8], &mut [u16], &mut [i16]) -> u32,
 }
 
 /// An implementation over the C functions of a module.
@@ -110,6 +112,14 @@ macro_rules! over_c {
                     out.as_mut_ptr(),
                     out_len,
                 )
+            },
+            export_packets: |apid, count, samples, out| unsafe {
+                let (count, count_len, out, out_len) = (count.as_mut_ptr(), count.len(), out.as_mut_ptr(), out.len());
+                $module::export_packets(apid, count, count_len, samples.as_ptr(), samples.len(), out, out_len)
+            },
+            import_packet: |packet, header, samples| unsafe {
+                let (header, header_len, samples, samples_len) = (header.as_mut_ptr(), header.len(), samples.as_mut_ptr(), samples.len());
+                $module::import_packet(packet.as_ptr(), packet.len(), header, header_len, samples, samples_len)
             },
         }
     };
@@ -241,6 +251,25 @@ macro_rules! declare {
                     out: *mut u8,
                     out_len: usize,
                 ) -> u32;
+                #[link_name = concat!($prefix, "export_packets")]
+                pub fn export_packets(
+                    apid: u8,
+                    count: *mut u16,
+                    count_len: usize,
+                    samples: *const i16,
+                    samples_len: usize,
+                    out: *mut u8,
+                    out_len: usize,
+                ) -> u64;
+                #[link_name = concat!($prefix, "import_packet")]
+                pub fn import_packet(
+                    packet: *const u8,
+                    packet_len: usize,
+                    header: *mut u16,
+                    header_len: usize,
+                    samples: *mut i16,
+                    samples_len: usize,
+                ) -> u32;
                 #[link_name = concat!($prefix, "sum")]
                 pub fn sum(powers: *const u32, powers_len: usize) -> u64;
             }
@@ -258,8 +287,9 @@ mod library {
     pub use dfb::ffi::{
         dfb_append as append, dfb_check_commands as check_commands, dfb_coarse_totals as coarse_totals, dfb_count_sets as count_sets,
         dfb_counted_command as counted_command, dfb_counted_mark as counted_mark, dfb_counted_report as counted_report,
-        dfb_counted_set as counted_set, dfb_counted_tick as counted_tick, dfb_listing as listing, dfb_pack as pack,
-        dfb_snapshot_read as snapshot_read, dfb_snapshot_write as snapshot_write, dfb_sum_component as sum_component, dfb_tick as tick,
+        dfb_counted_set as counted_set, dfb_counted_tick as counted_tick, dfb_export_packets as export_packets,
+        dfb_import_packet as import_packet, dfb_listing as listing, dfb_pack as pack, dfb_snapshot_read as snapshot_read,
+        dfb_snapshot_write as snapshot_write, dfb_sum_component as sum_component, dfb_tick as tick,
     };
 }
 
@@ -299,6 +329,8 @@ pub fn plain_rust() -> Implementation {
         snapshot_read: plain_rust::snapshot_read,
         snapshot_write: plain_rust::snapshot_write,
         sum_component: plain_rust::sum_component,
+        export_packets: plain_rust::export_packets,
+        import_packet: plain_rust::import_packet,
     }
 }
 

@@ -3,11 +3,11 @@
  * Every function with external linkage is proved: for every input, refused ones too, its answer and the later contents of every list are
  * those of the rules (AUDIT.md). The inline functions take answers apart and give lengths; they are tested against the proved ones.
  * HANDBOOK.md has the rules for people: registers and their fields, reports, bands, words, the log, command lists, counted logs, bursts,
- * snapshots, summed spectra, and a remedy for each refusal.
+ * snapshots, summed spectra, space packets, and a remedy for each refusal.
  *
  * A call ends in an answer or in a refusal, which has a number (enum dfb_refusal_number). A refused call changes nothing: the state and every
  * list are as they were. Nothing has to be checked before a call; lists of any length may be passed, and a wrong length is refused by 2, that
- * of a snapshot's packet by 16.
+ * of a snapshot's packet by 16, that of a space packet to import, or of samples to export, by 23.
  * The refusals of a function are named in the order in which they are given. In an output longer than needed, all behind the part written
  * stays as it was.
  *
@@ -30,9 +30,9 @@
 
 /* The minor number rises with every function that is added or changed, the patch number with a ticket that adds and changes none; the
  * soname of libdfb.so is libdfb.so.MAJOR. */
-#define DFB_VERSION "0.11.0"
+#define DFB_VERSION "0.12.0"
 #define DFB_VERSION_MAJOR 0
-#define DFB_VERSION_MINOR 11
+#define DFB_VERSION_MINOR 12
 #define DFB_VERSION_PATCH 0
 
 #ifdef __cplusplus
@@ -63,6 +63,8 @@ enum dfb_refusal_number {
     DFB_REFUSAL_SECOND_FALLS = 19,           /* the second is smaller than that of the mark before it */
     DFB_REFUSAL_VALUE_ALTERED = 20,          /* the register would store another value than the one sent */
     DFB_REFUSAL_AVERAGES_OVER_PERIOD = 21,   /* a processor is enabled and N is above C */
+    DFB_REFUSAL_WRONG_HEADER_FIELD = 22,     /* a space packet's header field is not as stated, or the first count is over 16383 */
+    DFB_REFUSAL_WRONG_DATA_LENGTH = 23,      /* a space packet has a wrong length, or its samples are none or not whole sets */
     DFB_REFUSAL_TOTAL_TOO_LARGE = 24,        /* a band total is over 2^49 */
     DFB_REFUSAL_TURNED_AWAY = 25,            /* no slot is free and no held slot has a smaller criterion */
     DFB_REFUSAL_NOTHING_TO_SEND = 26,        /* nothing is held to send, or no criterion is above 0 */
@@ -95,6 +97,8 @@ static inline const char *dfb_meaning(unsigned refusal)
     case DFB_REFUSAL_SECOND_FALLS: return "the second is smaller than that of the mark before it";
     case DFB_REFUSAL_VALUE_ALTERED: return "the register would store another value than the one sent";
     case DFB_REFUSAL_AVERAGES_OVER_PERIOD: return "a processor is enabled and N is above C";
+    case DFB_REFUSAL_WRONG_HEADER_FIELD: return "a space packet's header field is not as stated, or the first count is over 16383";
+    case DFB_REFUSAL_WRONG_DATA_LENGTH: return "a space packet has a wrong length, or its samples are none or not whole sets";
     case DFB_REFUSAL_TOTAL_TOO_LARGE: return "a band total is over 2^49";
     case DFB_REFUSAL_TURNED_AWAY: return "no slot is free and no held slot has a smaller criterion";
     case DFB_REFUSAL_NOTHING_TO_SEND: return "nothing is held to send, or no criterion is above 0";
@@ -517,6 +521,51 @@ uint32_t dfb_snapshot_write(const uint32_t *header, size_t header_len, const int
  * outside both masks comes in its turn with its 2,048 numbers, which may be any. */
 uint32_t dfb_sum_component(uint8_t *state, size_t state_len, uint64_t *totals, size_t totals_len, uint8_t component, uint8_t first_mask,
                            uint8_t second_mask, const int16_t *pairs, size_t pairs_len, uint8_t *out, size_t out_len);
+
+/* ---- space packets ---- */
+
+/* A space packet (CCSDS 133.0-B) of whole waveform sets of one APID: six bytes of primary header, then the samples without their APID bytes,
+ * high byte first. The header has version 0, type 0, no secondary header, the APID, sequence flags 3, a count that is one more each packet and
+ * 0 after 16383, and the bytes of data minus one. A packet has at most 4,096 bytes with its header. */
+#define DFB_PACKET_HEADER 6
+#define DFB_PACKET_BYTES 4096
+#define DFB_LAST_PACKET_COUNT 16383
+
+/* No packet has more samples: 292 sets of 7, or 681 sets of 3, which are 2,043. */
+#define DFB_PACKET_SAMPLES 2044
+
+/* Bytes that are enough for the packets of so many samples, whatever their APID. */
+static inline size_t dfb_packets_room(size_t samples)
+{
+    return 2 * samples + DFB_PACKET_HEADER * (samples / 2043 + 1);
+}
+
+/* How many bytes the packet at the front of a list has, by its own length field; the next packet begins behind them. 0 where the list is shorter
+ * than that, or than a header. */
+static inline size_t dfb_packet_bytes(const uint8_t *bytes, size_t bytes_len)
+{
+    size_t packet;
+    if (bytes_len < DFB_PACKET_HEADER)
+        return 0;
+    packet = DFB_PACKET_HEADER + 1 + 256 * (size_t)bytes[4] + bytes[5];
+    return packet <= bytes_len ? packet : 0;
+}
+
+/* Exports whole sets of a waveform APID as packets, one after the other: the bytes written. Each packet has as many whole sets as fit, the last
+ * one what is left. count[0] is the count of the first packet, and afterwards the next count. Refusal 2 where count_len is not 1, 4 (0x4E too),
+ * 22 where count[0] is over 16383, 23 where the samples are none or not whole sets, then 2 where out is too small. */
+uint64_t dfb_export_packets(uint8_t apid, uint16_t *count, size_t count_len, const int16_t *samples, size_t samples_len, uint8_t *out,
+                            size_t out_len);
+
+/* The numbers of a packet's header: APID and count. */
+#define DFB_PACKET_NUMBERS 2
+
+/* Imports one packet: how many samples were written, with APID and count in header[0..2]. Refusal 23 where packet_len is under 6, 4 where the
+ * APID is none of the six waveforms' (0x4E too), 22 where another field of the header is not as above, 23 where the bytes behind the header are
+ * not as many as its length field says, over 4,090, not whole sets, or none, then 2 where header_len is under 2 or samples_len under the number
+ * of samples. */
+uint32_t dfb_import_packet(const uint8_t *packet, size_t packet_len, uint16_t *header, size_t header_len, int16_t *samples,
+                           size_t samples_len);
 
 #ifdef __cplusplus
 }

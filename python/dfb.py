@@ -9,7 +9,7 @@ import ctypes
 import os
 import typing
 
-__version__ = "0.11.0"
+__version__ = "0.12.0"
 
 STATE, TOTALS, POWERS, OUTPUT = 9, 784, 7168, 1176
 RECORD, MOST_WORDS = 3, 7
@@ -19,6 +19,7 @@ FINE_TOTALS, MOST_TOTAL = 112, 1 << 49
 SNAPSHOT_HEADER, MOST_SNAPSHOT_SAMPLES, MOST_SNAPSHOT_BYTES = 10, 1024, 2068
 SUM_COMPONENTS, SUM_BINS = 8, 1024
 SUM_STATE, SUM_TOTALS, SUM_PAIRS, SUM_OUTPUT = 3, 2048, 2048, 4096
+PACKET_HEADER, PACKET_BYTES, PACKET_SAMPLES, PACKET_NUMBERS, LAST_PACKET_COUNT = 6, 4096, 2044, 2, 16383
 END, COMMAND, WORD, SECOND_MARK, TICK = 0, 1, 2, 3, 4
 FREE, HELD, SENDING = 0, 1, 2
 
@@ -43,6 +44,8 @@ MEANINGS = {
     19: "the second is smaller than that of the mark before it",
     20: "the register would store another value than the one sent",
     21: "a processor is enabled and N is above C",
+    22: "a space packet's header field is not as stated, or the first count is over 16383",
+    23: "a space packet has a wrong length, or its samples are none or not whole sets",
     24: "a band total is over 2^49",
     25: "no slot is free and no held slot has a smaller criterion",
     26: "nothing is held to send, or no criterion is above 0",
@@ -115,6 +118,8 @@ for _name, _answer, _arguments in (
     ("snapshot_read", U32, _list(U8) + _list(U32) + _list(ctypes.c_int16)),
     ("snapshot_write", U32, _list(U32) + _list(ctypes.c_int16) + _list(U8)),
     ("sum_component", U32, _list(U8) + _list(U64) + [U8, U8, U8] + _list(ctypes.c_int16) + _list(U8)),
+    ("export_packets", U64, [U8] + _list(U16) + _list(ctypes.c_int16) + _list(U8)),
+    ("import_packet", U32, _list(U8) + _list(U16) + _list(ctypes.c_int16)),
 ):
     _function = getattr(_library, "dfb_" + _name)
     _function.restype, _function.argtypes = _answer, _arguments
@@ -476,6 +481,40 @@ class Summed:
     def masks(self):
         """The first and the second mask, those of the last component 0; both 0 before it."""
         return self.state[1], self.state[2]
+
+
+class SpacePacket(typing.NamedTuple):
+    """A space packet: its APID and count, and its samples as one list, whole sets one after the other."""
+
+    apid: int
+    count: int
+    samples: list
+
+
+def export_packets(apid, first, samples):
+    """Whole sets of a waveform APID as space packets, the first with this count: the bytes of the packets one after the other, and the count of
+    the packet that comes next."""
+    samples, count = _numbers("h", ctypes.c_int16, samples), (U16 * 1)(_number(first, 16))
+    out = (U8 * (2 * len(samples) + PACKET_HEADER * (len(samples) // 2043 + 1)))()
+    written = _below_63(_library.dfb_export_packets(_number(apid, 8), count, len(count), samples, len(samples), out, len(out)))
+    return bytes(out[:written]), count[0]
+
+
+def packet_bytes(data):
+    """How many bytes the packet at the front of `data` has, by its own length field; the next packet begins behind them. 0 where `data` is
+    shorter than that, or than a header."""
+    if len(data) < PACKET_HEADER:
+        return 0
+    high, low = _numbers("B", U8, data[4:PACKET_HEADER])
+    packet = PACKET_HEADER + 1 + 256 * high + low
+    return packet if packet <= len(data) else 0
+
+
+def import_packet(packet):
+    """The SpacePacket of the bytes of one packet."""
+    packet, header, samples = _numbers("B", U8, packet), (U16 * PACKET_NUMBERS)(), (ctypes.c_int16 * PACKET_SAMPLES)()
+    count = _below_16(_library.dfb_import_packet(packet, len(packet), header, len(header), samples, len(samples)))
+    return SpacePacket(*header, samples[:count])
 
 
 if __name__ == "__main__":

@@ -70,6 +70,13 @@ static int is_unchanged_but(const void *changed, size_t bytes)
     return 1;
 }
 
+/* A list, by its number in the order in which they were made, is as remembered behind so many bytes. */
+static int stays_behind(size_t number, size_t bytes)
+{
+    const struct list *list = &lists[number];
+    return memcmp(list->contents + bytes, list->before + bytes, list->bytes - bytes) == 0;
+}
+
 /* ---- checks ---- */
 
 static unsigned faults;
@@ -1169,6 +1176,16 @@ static const struct field {
     size_t offset, bytes;
 } fields[DFB_SNAPSHOT_HEADER] = {{1, 2}, {3, 2}, {5, 2}, {8, 4}, {12, 1}, {13, 1}, {14, 2}, {16, 1}, {17, 1}, {18, 2}};
 
+/* Puts so many samples, high byte first. */
+static void put_samples(uint8_t *to, const int16_t *from, size_t count)
+{
+    for (size_t i = 0; i < count; i++) {
+        uint16_t bits = (uint16_t)from[i];
+        to[2 * i] = (uint8_t)(bits >> 8);
+        to[2 * i + 1] = (uint8_t)(bits & 0xFFu);
+    }
+}
+
 /* Puts a packet of 20 bytes and so many samples, all high byte first. */
 static void put_packet(uint8_t *to, const uint32_t numbers[DFB_SNAPSHOT_HEADER], const int16_t *from, size_t count)
 {
@@ -1177,11 +1194,7 @@ static void put_packet(uint8_t *to, const uint32_t numbers[DFB_SNAPSHOT_HEADER],
     for (size_t n = 0; n < DFB_SNAPSHOT_HEADER; n++)
         for (size_t i = 0; i < fields[n].bytes; i++)
             to[fields[n].offset + i] = (uint8_t)(numbers[n] >> 8 * (fields[n].bytes - 1 - i) & 0xFFu);
-    for (size_t i = 0; i < count; i++) {
-        uint16_t bits = (uint16_t)from[i];
-        to[20 + 2 * i] = (uint8_t)(bits >> 8);
-        to[20 + 2 * i + 1] = (uint8_t)(bits & 0xFFu);
-    }
+    put_samples(to + 20, from, count);
 }
 
 /* A packet is read as numbers and so many samples, with lists of exactly their length and with longer ones, which keep their rest; and written
@@ -1198,8 +1211,7 @@ static void reads_and_writes(const uint8_t *bytes, const uint32_t numbers[DFB_SN
         CHECK(answer == count && dfb_refusal(answer) == 0 && dfb_refusal_u32(answer) == 0);
         CHECK(memcmp(packet, bytes, length) == 0);
         CHECK(memcmp(header, numbers, TEN) == 0 && memcmp(waveform, expected, 2 * count) == 0);
-        CHECK(memcmp((uint8_t *)header + TEN, lists[1].before + TEN, more * sizeof *header) == 0);
-        CHECK(memcmp(waveform + count, lists[2].before + 2 * count, 2 * more) == 0);
+        CHECK(stays_behind(1, TEN) && stays_behind(2, 2 * count));
 
         make_snapshot(length + more, DFB_SNAPSHOT_HEADER, count);
         memcpy(header, numbers, TEN);
@@ -1791,11 +1803,319 @@ static void test_sum_faults(void)
         }
 }
 
+/* ---- space packets ---- */
+
+static uint16_t *packet_numbers; /* the count of an export, or the header of an import */
+static size_t packet_numbers_len;
+
+/* The lists of a call, of so many elements. */
+static void make_packets(size_t numbers, size_t count, size_t bytes)
+{
+    drop_lists();
+    packet_numbers_len = numbers, waveform_len = count, packet_len = bytes;
+    packet_numbers = (uint16_t *)make_list(numbers * sizeof *packet_numbers);
+    waveform = (int16_t *)make_list(count * sizeof *waveform);
+    packet = (uint8_t *)make_list(bytes);
+}
+
+static uint64_t export_packets(uint8_t apid)
+{
+    return dfb_export_packets(apid, packet_numbers, packet_numbers_len, waveform, waveform_len, packet, packet_len);
+}
+
+static uint32_t import_packet(void)
+{
+    return dfb_import_packet(packet, packet_len, packet_numbers, packet_numbers_len, waveform, waveform_len);
+}
+
+static const uint8_t waveforms[6] = {0x43, 0x44, 0x45, 0x46, 0x47, 0x48};
+
+/* Puts a header: 3 bits version, 1 type, 1 secondary header flag, 11 APID, 2 sequence flags, 14 count, 16 length. */
+static void put_primary(uint8_t *to, const unsigned field[7])
+{
+    static const unsigned bits[7] = {3, 1, 1, 11, 2, 14, 16};
+    uint64_t number = 0;
+    for (size_t n = 0; n < 7; n++)
+        number = number << bits[n] | field[n];
+    for (size_t i = 0; i < 6; i++)
+        to[i] = (uint8_t)(number >> 8 * (5 - i) & 0xFFu);
+}
+
+/* Puts one packet of so many samples. */
+static void put_space_packet(uint8_t *to, uint8_t apid, unsigned count, const int16_t *from, size_t samples)
+{
+    const unsigned field[7] = {0, 0, 0, apid, 3, count, (unsigned)(2 * samples - 1)};
+    put_primary(to, field);
+    put_samples(to + 6, from, samples);
+}
+
+/* One packet of so many samples is imported, to lists of exactly their length and to longer ones, which keep their rest; with one element less,
+ * and with a byte less or more of the packet, it is refused. */
+static void imports(const uint8_t *bytes, uint8_t apid, unsigned count, const int16_t *expected, size_t samples)
+{
+    size_t length = 6 + 2 * samples;
+    for (size_t more = 0; more < 3; more++) {
+        make_packets(DFB_PACKET_NUMBERS + more, samples + more, length);
+        memcpy(packet, bytes, length);
+        remember();
+        uint32_t answer = import_packet();
+        CHECK(answer == samples && dfb_refusal(answer) == 0 && dfb_refusal_u32(answer) == 0);
+        CHECK(packet_numbers[0] == apid && packet_numbers[1] == count && memcmp(waveform, expected, 2 * samples) == 0);
+        CHECK(stays_behind(0, 2 * sizeof *packet_numbers) && stays_behind(1, 2 * samples) && stays_behind(2, 0));
+    }
+    for (unsigned fault = 0; fault < 4; fault++) {
+        make_packets(fault == 0 ? 1 : 2, fault == 1 ? samples - 1 : samples, fault == 2 ? length - 1 : fault == 3 ? length + 1 : length);
+        memcpy(packet, bytes, fault == 2 ? length - 1 : length);
+        REFUSED_32(fault < 2 ? 2u : 23u, import_packet());
+    }
+}
+
+/* So many samples are exported, to exactly as many bytes as their packets have, to more, which keep their rest, and to as many as
+ * dfb_packets_room gives; to one byte less they are not. Each packet that dfb_packet_bytes finds is imported. */
+static void exports(uint8_t apid, unsigned first, size_t samples)
+{
+    static uint8_t expected[50000];
+    static int16_t given[24000];
+    size_t most = dfb_set_words(apid) == 3 ? 2043 : 2044, packets = (samples + most - 1) / most, bytes = 6 * packets + 2 * samples;
+    unsigned next = (first + (unsigned)packets) % 16384;
+    if (bytes > sizeof expected || samples > sizeof given / sizeof *given)
+        abort();
+    for (size_t i = 0; i < samples; i++)
+        given[i] = (int16_t)((int)((i * 40503u + first + apid) % 65536u) - 32768);
+    for (size_t p = 0; p < packets; p++) {
+        size_t left = samples - p * most;
+        put_space_packet(expected + p * (6 + 2 * most), apid, (first + (unsigned)p) % 16384, given + p * most, left < most ? left : most);
+    }
+    const size_t lengths[] = {bytes, bytes + 1, bytes + 4096, dfb_packets_room(samples)};
+    for (size_t i = 0; i < sizeof lengths / sizeof *lengths; i++) {
+        make_packets(1, samples, lengths[i]);
+        packet_numbers[0] = (uint16_t)first;
+        memcpy(waveform, given, 2 * samples);
+        remember();
+        uint64_t answer = export_packets(apid);
+        CHECK(answer == bytes && dfb_refusal(answer) == 0 && dfb_refusal_u64(answer) == 0);
+        CHECK(packet_numbers[0] == next && stays_behind(1, 0) && memcmp(packet, expected, bytes) == 0 && stays_behind(2, bytes));
+    }
+    make_packets(1, samples, bytes - 1);
+    packet_numbers[0] = (uint16_t)first;
+    REFUSED_64(2u, export_packets(apid));
+
+    size_t found = 0, at = 0, length;
+    for (; (length = dfb_packet_bytes(expected + at, bytes - at)) != 0; at += length, found++) {
+        size_t left = samples - found * most;
+        CHECK(length == 6 + 2 * (left < most ? left : most) && length <= DFB_PACKET_BYTES && (length - 6) / 2 <= DFB_PACKET_SAMPLES);
+        CHECK(dfb_packet_bytes(expected + at, length) == length && dfb_packet_bytes(expected + at, length - 1) == 0);
+        imports(expected + at, apid, (first + (unsigned)found) % 16384, given + found * most, (length - 6) / 2);
+    }
+    CHECK(found == packets && at == bytes);
+}
+
+/* Packets by hand. */
+static void test_packets(void)
+{
+    static const int16_t three[3] = {1, -1, -32768}, seven[7] = {32767, 256, -256, 0, 0x1234, 2, 3};
+    uint8_t bytes[20];
+    CHECK(DFB_PACKET_HEADER == 6 && DFB_PACKET_BYTES == 4096 && DFB_LAST_PACKET_COUNT == 16383 && DFB_PACKET_SAMPLES == 2044);
+    put_digits(bytes, "0043" "C000" "0005" "0001" "FFFF" "8000");
+    imports(bytes, 0x43, 0, three, 3);
+    make_packets(1, 3, 12);
+    packet_numbers[0] = 0;
+    memcpy(waveform, three, sizeof three);
+    CHECK(export_packets(0x43) == 12 && packet_numbers[0] == 1 && memcmp(packet, bytes, 12) == 0);
+    put_digits(bytes, "0047" "FFFF" "000D" "7FFF" "0100" "FF00" "0000" "1234" "0002" "0003");
+    imports(bytes, 0x47, 16383, seven, 7);
+    make_packets(1, 7, 20);
+    packet_numbers[0] = 16383;
+    memcpy(waveform, seven, sizeof seven);
+    CHECK(export_packets(0x47) == 20 && packet_numbers[0] == 0 && memcmp(packet, bytes, 20) == 0);
+}
+
+/* Every waveform: one set, packets that are full or lack a set, one set more, and several packets whose counts go over the last one. */
+static void test_packet_sizes(void)
+{
+    for (size_t n = 0; n < sizeof waveforms; n++) {
+        size_t words = dfb_set_words(waveforms[n]), most = words == 3 ? 2043 : 2044;
+        const size_t counts_of[] = {words, 2 * words, most - words, most, most + words, 2 * most, 2 * most + words, 3 * most};
+        for (size_t i = 0; i < sizeof counts_of / sizeof *counts_of; i++)
+            for (unsigned first = 16381; first < 16384; first++)
+                exports(waveforms[n], i % 2 ? first : 97 * (unsigned)i, counts_of[i]);
+        exports(waveforms[n], 16380, 9 * most + words);
+    }
+}
+
+/* dfb_packets_room is enough for every number of whole sets: it is at least what an export writes. */
+static void test_packets_room(void)
+{
+    enum { MOST = 9 * 2044 };
+    make_packets(1, MOST, dfb_packets_room(MOST));
+    for (size_t samples = 1; samples <= MOST; samples++)
+        for (size_t n = 0; n < 2; n++)
+            if (samples % dfb_set_words(waveforms[n]) == 0 && (samples % 2043 < 30 || samples % 2044 < 30 || samples % 2043 > 2013)) {
+                packet_numbers[0] = 0;
+                uint64_t answer = dfb_export_packets(waveforms[n], packet_numbers, 1, waveform, samples, packet, dfb_packets_room(samples));
+                CHECK(dfb_refusal(answer) == 0 && answer <= dfb_packets_room(samples) && dfb_packets_room(samples) - answer <= 12);
+            }
+    CHECK(dfb_packets_room(0) == 6);
+}
+
+/* The length of the first packet of a list, whatever else is in it. */
+static void test_packet_bytes(void)
+{
+    for (size_t length = 0; length < 6; length++) {
+        make_packets(0, 0, length);
+        CHECK(dfb_packet_bytes(packet, length) == 0);
+    }
+    CHECK(dfb_packet_bytes(NULL, 0) == 0);
+    make_packets(0, 0, 6 + 65536);
+    for (unsigned length = 0; length < 65536; length += length % 256 == 0 || length % 256 > 253 ? 1u : 11u) {
+        packet[4] = (uint8_t)(length >> 8), packet[5] = (uint8_t)(length & 0xFFu);
+        size_t whole = 7 + (size_t)length;
+        CHECK(dfb_packet_bytes(packet, packet_len) == whole && dfb_packet_bytes(packet, whole) == whole);
+        CHECK(dfb_packet_bytes(packet, whole - 1) == 0 && dfb_packet_bytes(packet, 6) == 0);
+    }
+}
+
+/* Every choice of faults at once gives the refusal that is first in order, here and in test_import_refused. */
+static void test_export_refused(void)
+{
+    enum { NO_COUNT = 1, TWO_COUNTS = 2, APID = 4, FIRST = 8, NO_SAMPLES = 16, PART = 32, BYTES = 64, ALL = 128 };
+    static const uint8_t other_apids[4] = {0x4E, 0x49, 0x42, 0xC3};
+    static const uint16_t over[4] = {16384, 16385, 32768, 65535};
+    for (size_t n = 0; n < sizeof waveforms; n++)
+        for (unsigned made = 1; made < ALL; made++)
+            for (unsigned turn = 0; turn < 4; turn++) {
+                size_t words = dfb_set_words(waveforms[n]), samples = made & NO_SAMPLES ? 0 : made & PART ? 2 * words + 1 + turn % 2 : 2 * words;
+                size_t room = 6 + 4 * words;
+                make_packets(made & NO_COUNT ? 0 : made & TWO_COUNTS ? 2 : 1, samples, made & BYTES ? (turn % 2 ? room - 1 : 0) : room + 4);
+                for (size_t i = 0; i < packet_numbers_len; i++)
+                    packet_numbers[i] = made & FIRST ? over[turn] : 16383;
+                unsigned refusal = made & (NO_COUNT | TWO_COUNTS) ? 2 : made & APID ? 4 : made & FIRST ? 22 : made & (NO_SAMPLES | PART) ? 23 : 2;
+                REFUSED_64(refusal, export_packets(made & APID ? other_apids[turn] : waveforms[n]));
+            }
+    for (unsigned apid = 0; apid < 256; apid++)
+        if (apid < 0x43 || apid > 0x48) {
+            make_packets(1, 21, 100);
+            packet_numbers[0] = 5;
+            REFUSED_64(4u, export_packets((uint8_t)apid));
+        }
+    for (size_t length = 0; length < 48; length++) {
+        make_packets(1, 21, length);
+        packet_numbers[0] = 5;
+        REFUSED_64(2u, export_packets(length % 2 ? 0x43 : 0x44));
+    }
+    make_packets(1, 21, 48);
+    packet_numbers[0] = 5;
+    REFUSED_64(2u, dfb_export_packets(0x43, NULL, 0, waveform, 21, packet, 48));
+    REFUSED_64(23u, dfb_export_packets(0x43, packet_numbers, 1, NULL, 0, packet, 48));
+    REFUSED_64(2u, dfb_export_packets(0x43, packet_numbers, 1, waveform, 21, NULL, 0));
+    REFUSED_64(23u, dfb_export_packets(0x43, packet_numbers, 1, NULL, 0, NULL, 0));
+    REFUSED_64(4u, dfb_export_packets(0x4E, packet_numbers, 1, NULL, 0, NULL, 0));
+    REFUSED_64(2u, dfb_export_packets(0x4E, NULL, 0, NULL, 0, NULL, 0));
+}
+
+/* The lists of an import of so many bytes of data, with the header given and room for all samples. */
+static void make_import(const unsigned field[7], size_t data)
+{
+    make_packets(2, data / 2, 6 + data);
+    put_primary(packet, field);
+}
+
+/* Each field of a header: every value of it, of the APID all 2048. */
+static void test_packet_fields(void)
+{
+    for (size_t n = 0; n < sizeof waveforms; n++)
+        for (unsigned first = 0; first < 32; first++)
+            for (unsigned flags = 0; flags < 4; flags++) {
+                const unsigned field[7] = {first >> 2, first >> 1 & 1u, first & 1u, waveforms[n], flags, 4097 * flags, 41};
+                make_import(field, 42);
+                if (first == 0 && flags == 3)
+                    CHECK(import_packet() == 21 && packet_numbers[0] == waveforms[n] && packet_numbers[1] == 4097 * 3);
+                else
+                    REFUSED_32(22u, import_packet());
+            }
+    for (unsigned apid = 0; apid < 2048; apid++) {
+        const unsigned field[7] = {0, 0, 0, apid, 3, 7, 41};
+        make_import(field, 42);
+        if (apid >= 0x43 && apid <= 0x48)
+            CHECK(import_packet() == 21 && packet_numbers[0] == apid && packet_numbers[1] == 7);
+        else
+            REFUSED_32(4u, import_packet());
+    }
+    const unsigned one_set[7] = {0, 0, 0, 0x45, 3, 0, 5};
+    make_import(one_set, 6);
+    for (unsigned count = 0; count < 16384; count++) {
+        packet[2] = (uint8_t)(0xC0u | count >> 8), packet[3] = (uint8_t)(count & 0xFFu);
+        CHECK(import_packet() == 3 && packet_numbers[0] == 0x45 && packet_numbers[1] == count);
+    }
+}
+
+/* Data of every length up to over that of a packet, with a right length field; length fields that are not right; no data. */
+static void test_packet_lengths(void)
+{
+    for (size_t n = 0; n < 2; n++) {
+        size_t words = dfb_set_words(waveforms[n]);
+        for (size_t data = 1; data < 4300; data += data < 100 || (data > 4000 && data < 4200) ? 1 : 2 * words + (data % 3 == 0)) {
+            const unsigned field[7] = {0, 0, 0, waveforms[n], 3, 9, (unsigned)data - 1};
+            make_import(field, data);
+            if (data <= 4090 && data % (2 * words) == 0)
+                CHECK(import_packet() == data / 2 && packet_numbers[1] == 9);
+            else
+                REFUSED_32(23u, import_packet());
+        }
+        /* 65,536 bytes, whose length field is the greatest */
+        const unsigned greatest[7] = {0, 0, 0, waveforms[n], 3, 9, 65535};
+        make_import(greatest, 65536);
+        REFUSED_32(23u, import_packet());
+        for (unsigned length = 0; length < 65536; length += length < 300 || length > 65300 ? 1u : 97u) {
+            const unsigned field[7] = {0, 0, 0, waveforms[n], 3, 9, length};
+            make_import(field, 0);
+            REFUSED_32(23u, import_packet());
+            make_import(field, 42);
+            if (length != 41)
+                REFUSED_32(23u, import_packet());
+        }
+    }
+}
+
+static void test_import_refused(void)
+{
+    enum { SHORT = 1, APID = 2, HIGH = 4, VERSION = 8, TYPE = 16, FLAG = 32, FLAGS = 64, LENGTH = 128, PART = 256, NUMBERS = 512, SAMPLES = 1024,
+           ALL = 2048 };
+    for (unsigned made = 1; made < ALL; made++)
+        for (unsigned turn = 0; turn < 2; turn++) {
+            uint8_t apid = waveforms[turn], bytes[6];
+            size_t data = made & PART ? 42 + 1 + 3 * turn : 42;
+            const unsigned field[7] = {made & VERSION ? 1 + turn : 0, made & TYPE ? 1u : 0, made & FLAG ? 1u : 0,
+                                       (made & APID ? 0x4E : apid) + (made & HIGH ? 0x100u << turn : 0), made & FLAGS ? turn : 3, 5,
+                                       (unsigned)data - 1 + (made & LENGTH ? 1 + turn : 0)};
+            make_packets(made & NUMBERS ? turn : 2, made & SAMPLES ? 20 * turn : data / 2, made & SHORT ? 5 * turn : 6 + data);
+            put_primary(bytes, field);
+            memcpy(packet, bytes, packet_len < 6 ? packet_len : 6);
+            unsigned refusal = made & SHORT ? 23 : made & (APID | HIGH) ? 4 : made & (VERSION | TYPE | FLAG | FLAGS) ? 22
+                               : made & (LENGTH | PART) ? 23 : 2;
+            REFUSED_32(refusal, import_packet());
+        }
+    for (size_t length = 0; length < 48; length++) {
+        const unsigned field[7] = {0, 0, 0, 0x44, 3, 5, 41};
+        make_import(field, 42);
+        REFUSED_32(23u, dfb_import_packet(packet, length, packet_numbers, 2, waveform, 21));
+        if (length < 21)
+            REFUSED_32(2u, dfb_import_packet(packet, 48, packet_numbers, 2, waveform, length));
+        if (length < 2)
+            REFUSED_32(2u, dfb_import_packet(packet, 48, packet_numbers, length, waveform, 21));
+    }
+    REFUSED_32(23u, dfb_import_packet(NULL, 0, packet_numbers, 2, waveform, 21));
+    REFUSED_32(23u, dfb_import_packet(NULL, 0, NULL, 0, NULL, 0));
+    REFUSED_32(2u, dfb_import_packet(packet, 48, NULL, 0, waveform, 21));
+    REFUSED_32(2u, dfb_import_packet(packet, 48, packet_numbers, 2, NULL, 0));
+    REFUSED_32(2u, dfb_import_packet(packet, 48, NULL, 0, NULL, 0));
+}
+
 /* ---- the header by itself ---- */
 
 static void test_meanings(void)
 {
-    static const uint8_t numbers[] = {1, 2, 3, 4, 5, 6, 7, 8, 9, 10, 11, 12, 14, 15, 16, 17, 18, 19, 20, 21, 24, 25, 26, 27, 28, 29};
+    static const uint8_t numbers[] = {1, 2, 3, 4, 5, 6, 7, 8, 9, 10, 11, 12, 14, 15, 16, 17, 18, 19, 20, 21, 22, 23, 24, 25, 26, 27, 28, 29};
     size_t found = 0;
     for (unsigned n = 0; n < 0x20000; n++) {
         int is_refusal = found < sizeof numbers && numbers[found] == n;
@@ -1808,6 +2128,8 @@ static void test_meanings(void)
     CHECK(strcmp(dfb_meaning(14), "the packet's SID is not 33 or its auxiliary length is not 8") == 0);
     CHECK(strcmp(dfb_meaning(15), "the total of packets is over 3072, or the packet number is not below the total") == 0);
     CHECK(strcmp(dfb_meaning(16), "the packet is under 20 bytes, or its bytes or samples are not as many as its mask says") == 0);
+    CHECK(strcmp(dfb_meaning(22), "a space packet's header field is not as stated, or the first count is over 16383") == 0);
+    CHECK(strcmp(dfb_meaning(23), "a space packet has a wrong length, or its samples are none or not whole sets") == 0);
 }
 
 /* Answers that no function gives today are no refusals either, unless they are a base and a number. */
@@ -1930,6 +2252,14 @@ static const struct test {
     {"unsound sums", test_sum_unsound},
     {"order of components", test_sum_order},
     {"faults of sums", test_sum_faults},
+    {"packets", test_packets},
+    {"packet sizes", test_packet_sizes},
+    {"packets room", test_packets_room},
+    {"packet bytes", test_packet_bytes},
+    {"exports refused", test_export_refused},
+    {"packet fields", test_packet_fields},
+    {"packet lengths", test_packet_lengths},
+    {"imports refused", test_import_refused},
     {"meanings", test_meanings},
     {"bases", test_bases},
     {"offsets", test_offsets},

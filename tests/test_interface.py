@@ -1,6 +1,7 @@
 """The interface is declared four times: by the Rattle sources, include/dfb.h, Rust's ffi and Python's table. These tests read all four and
 compare every exported function (name, number, order, names and types of parameters, constness, type of the answer), every constant of the
-header, every refusal with its meaning, and the numbers of a snapshot's header. Wrong edits of each are tried, and must be found."""
+header, every refusal with its meaning, and the numbers of the headers of a snapshot and a space packet. Wrong edits of each are tried, and
+must be found."""
 import ctypes
 import os
 import re
@@ -25,8 +26,9 @@ def read(*path):
 
 def sources():
     """The text of each declaration."""
-    crates = "refusal registers words log model listing bursts interval coarse counts snapshot summed dfb_refusals"
+    crates = "refusal registers words log model listing bursts interval coarse counts snapshot summed space_packets dfb_refusals"
     crates += " dfb_board dfb_log dfb_bands dfb_bursts dfb_interval dfb_coarse dfb_checker dfb_counts dfb_snapshot dfb_summed"
+    crates += " dfb_space_packets"
     texts = {crate: read("crates", crate, "src", "lib.rt") for crate in crates.split()}
     texts.update(header=read("include", "dfb.h"), rust=read("rust", "src", "lib.rs"), python=read("python", "dfb.py"))
     texts.update(cargo=read("rust", "Cargo.toml"))
@@ -201,6 +203,11 @@ def rattle_constants(texts):
     constants["DFB_MOST_SNAPSHOT_BYTES"] = rattle_constant(texts["snapshot"], "HEADER") + 2 * samples
     constants.update({"DFB_SUM_" + name: rattle_constant(texts["summed"], name) for name in ("COMPONENTS", "BINS", "TOTALS", "PAIRS", "OUTPUT")})
     constants["DFB_SUM_STATE"] = rattle_constant(texts["dfb_summed"], "STATE")
+    packet, packet_header = rattle_constant(texts["space_packets"], "MOST_BYTES"), rattle_constant(texts["space_packets"], "HEADER")
+    constants.update({"DFB_PACKET_BYTES": packet, "DFB_PACKET_HEADER": packet_header})
+    constants["DFB_PACKET_SAMPLES"] = max(count * ((packet - packet_header) // (2 * count)) for count in words.values())
+    constants["DFB_LAST_PACKET_COUNT"] = rattle_constant(texts["space_packets"], "LAST_COUNT")
+    constants["DFB_PACKET_NUMBERS"] = rattle_constant(texts["dfb_space_packets"], "HEADER")
     return constants
 
 
@@ -230,6 +237,7 @@ def constant_differences(texts, module):
     names = {"STATE", "TOTALS", "POWERS", "OUTPUT", "RECORD", "MOST_WORDS", "REGISTERS", "COUNTS", "FINE_TOTALS", "MOST_TOTAL"}
     names |= {"SNAPSHOT_HEADER", "MOST_SNAPSHOT_SAMPLES", "MOST_SNAPSHOT_BYTES"}
     names |= {"SUM_COMPONENTS", "SUM_BINS", "SUM_STATE", "SUM_TOTALS", "SUM_PAIRS", "SUM_OUTPUT"}
+    names |= {"PACKET_HEADER", "PACKET_BYTES", "PACKET_SAMPLES", "PACKET_NUMBERS", "LAST_PACKET_COUNT"}
     python = {name: expected["DFB_" + name] for name in names}
     python.update({name: expected["DFB_KIND_" + name] for name in ("END", "COMMAND", "WORD", "SECOND_MARK", "TICK")})
     python.update({name: expected["DFB_SLOT_" + name] for name in ("FREE", "HELD", "SENDING")})
@@ -271,6 +279,15 @@ def snapshot_differences(texts, module):
     return compare("snapshot", found, expected) + compare("places", {name: constants.get(name) for name in places}, places)
 
 
+def packet_differences(texts, module):
+    """Of the numbers of a space packet's header: their order, in the list of C too."""
+    fields = struct_fields(texts["space_packets"], "PacketHeader")
+    places = re.findall(r"header\[(\d)\] = from\.(\w+);", texts["dfb_space_packets"])
+    found = {"Rust": struct_fields(texts["rust"], "PacketHeader"), "Python": list(module.SpacePacket._fields[:-1]), "C": places}
+    names = [name for name, _ in fields]
+    return compare("space packet", found, {"Rust": fields, "Python": names, "C": [(str(place), name) for place, name in enumerate(names)]})
+
+
 def version_differences(texts, module):
     version = one(r'#define DFB_VERSION "(.*)"', texts["header"])
     found = {"Python": module.__version__, "Cargo.toml": one(r'(?m)^version = "(.*)"$', texts["cargo"])}
@@ -280,7 +297,8 @@ def version_differences(texts, module):
 def differences(texts):
     module = python_module(texts["python"])
     module.text = texts["python"]
-    comparisons = (name_differences, function_differences, constant_differences, refusal_differences, snapshot_differences, version_differences)
+    comparisons = (name_differences, function_differences, constant_differences, refusal_differences, snapshot_differences, packet_differences,
+                   version_differences)
     return [line for comparison in comparisons for line in comparison(texts, module)]
 
 
@@ -338,7 +356,7 @@ WRONG_EDITS = [
     ("header", 'return "the packet is under 20 bytes', 'return "the packet is under 21 bytes'),
     ("header", "uint32_t dfb_snapshot_read(const uint8_t *packet", "uint32_t dfb_snapshot_read(uint8_t *packet"),
     ("header", "size_t packet_len, uint32_t *header", "size_t packet_len, uint16_t *header"),
-    ("header", "size_t header_len, int16_t *samples", "size_t header_len, const int16_t *samples"),
+    ("header", "uint32_t *header, size_t header_len, int16_t *samples", "uint32_t *header, size_t header_len, const int16_t *samples"),
     ("header", "uint32_t dfb_snapshot_write(", "uint64_t dfb_snapshot_write("),
     ("header", "const uint32_t *header, size_t header_len, const int16_t *samples, size_t samples_len",
      "const int16_t *samples, size_t samples_len, const uint32_t *header, size_t header_len"),
@@ -359,6 +377,22 @@ WRONG_EDITS = [
     ("header", "uint8_t component, uint8_t first_mask", "uint8_t first_mask, uint8_t component"),
     ("header", "uint8_t second_mask, const int16_t *pairs", "uint8_t second_mask, int16_t *pairs"),
     ("header", "size_t pairs_len, uint8_t *out, size_t out_len", "size_t pairs_len, const uint8_t *out, size_t out_len"),
+    ("header", "#define DFB_PACKET_HEADER 6", "#define DFB_PACKET_HEADER 7"),
+    ("header", "#define DFB_PACKET_BYTES 4096", "#define DFB_PACKET_BYTES 4090"),
+    ("header", "#define DFB_LAST_PACKET_COUNT 16383", "#define DFB_LAST_PACKET_COUNT 16384"),
+    ("header", "#define DFB_PACKET_SAMPLES 2044", "#define DFB_PACKET_SAMPLES 2043"),
+    ("header", "#define DFB_PACKET_NUMBERS 2", "#define DFB_PACKET_NUMBERS 3"),
+    ("header", "DFB_REFUSAL_WRONG_HEADER_FIELD = 22", "DFB_REFUSAL_WRONG_HEADER_FIELD = 23"),
+    ("header", "DFB_REFUSAL_WRONG_DATA_LENGTH = 23", "DFB_REFUSAL_WRONG_DATA_LENGTH = 13"),
+    ("header", "or the first count is over 16383 */", "or the first count is over 16384 */"),
+    ("header", 'return "a space packet has a wrong length, or its samples', 'return "a space packet has a wrong length, or the samples'),
+    ("header", "uint64_t dfb_export_packets(", "uint32_t dfb_export_packets("),
+    ("header", "dfb_export_packets(uint8_t apid, uint16_t *count", "dfb_export_packets(uint8_t apid, const uint16_t *count"),
+    ("header", "dfb_export_packets(uint8_t apid, uint16_t *count", "dfb_export_packets(uint16_t apid, uint16_t *count"),
+    ("header", "size_t count_len, const int16_t *samples", "size_t count_len, int16_t *samples"),
+    ("header", "uint32_t dfb_import_packet(const uint8_t *packet", "uint32_t dfb_import_packet(uint8_t *packet"),
+    ("header", "uint16_t *header, size_t header_len, int16_t *samples", "uint32_t *header, size_t header_len, int16_t *samples"),
+    ("header", "uint16_t *header, size_t header_len, int16_t *samples", "uint16_t *header, size_t header_len, const int16_t *samples"),
     ("header", "#define DFB_TOTALS 784", "#define DFB_TOTALS 784\n#define DFB_MORE (1u << 3)"),
     ("header", "uint8_t dfb_compress_band(uint32_t value);", "uint8_t dfb_compress_band(uint32_t value);\nextern int dfb_more (void);"),
     ("rust", "pub fn dfb_compress_band(value: u32) -> u8;", "pub fn dfb_compress_band(value: u32) -> u8; pub fn dfb_more(value: u8);"),
@@ -392,6 +426,15 @@ WRONG_EDITS = [
     ("rust", "ComponentOutOfOrder = 17,", "ComponentOutOfOrder = 13,"),
     ("rust", "17 => Refusal::ComponentOutOfOrder", "13 => Refusal::ComponentOutOfOrder"),
     ("rust", '"the component is not the next one"', '"the component is the next one"'),
+    ("rust", "apid: u8,\n            count: *mut u16", "apid: u8,\n            count: *const u16"),
+    ("rust", "pub fn dfb_import_packet(\n            packet: *const u8", "pub fn dfb_import_packet(\n            packet: *mut u8"),
+    ("rust", "header: *mut u16,", "header: *mut u32,"),
+    ("rust", "pub const PACKET_SAMPLES: usize = 2044", "pub const PACKET_SAMPLES: usize = 2043"),
+    ("rust", "pub const LAST_PACKET_COUNT: u16 = 16383", "pub const LAST_PACKET_COUNT: u16 = 16384"),
+    ("rust", "    pub apid: u16,\n", "    pub apid: u8,\n"),
+    ("rust", "WrongHeaderField = 22,", "WrongHeaderField = 13,"),
+    ("rust", "23 => Refusal::WrongDataLength", "13 => Refusal::WrongDataLength"),
+    ("rust", '"a space packet\'s header field is not as stated, or the first', '"a space packet\'s header field is as stated, or the first'),
     ("rust", "ValueAltered = 20,", "ValueAltered = 21,"),
     ("rust", "19 => Refusal::SecondFalls", "21 => Refusal::SecondFalls"),
     ("rust", '"a slot is already sending"', '"a slot is sending"'),
@@ -421,6 +464,14 @@ WRONG_EDITS = [
     ("python", "SUM_PAIRS, SUM_OUTPUT = 3, 2048, 2048, 4096", "SUM_PAIRS, SUM_OUTPUT = 3, 2048, 2048, 2048"),
     ("python", '17: "the component is not the next one"', '17: "the component is out of order"'),
     ("python", "the counting writer or a sum can have left", "the counting writer can have left"),
+    ("python", '("export_packets", U64, [U8] + _list(U16)', '("export_packets", U64, [U8] + _list(U32)'),
+    ("python", '("export_packets", U64,', '("export_packets", U32,'),
+    ("python", '("import_packet", U32, _list(U8) + _list(U16)', '("import_packet", U32, _list(U16) + _list(U8)'),
+    ("python", "PACKET_NUMBERS, LAST_PACKET_COUNT = 6, 4096, 2044, 2, 16383", "PACKET_NUMBERS, LAST_PACKET_COUNT = 6, 4096, 2043, 2, 16383"),
+    ("python", "PACKET_NUMBERS, LAST_PACKET_COUNT = 6, 4096, 2044, 2, 16383", "PACKET_NUMBERS, LAST_PACKET_COUNT = 6, 4096, 2044, 2, 16384"),
+    ("python", "    apid: int\n    count: int\n", "    count: int\n    apid: int\n"),
+    ("python", "or the first count is over 16383", "or the first count is over 16384"),
+    ("python", '23: "a space packet has a wrong length, or', '23: "a space packet has a length, or'),
     ("python", '("compress_band", U8, [U32])', '("compress_band", U8, [ctypes.c_int32])'),
     ("python", '("command", U32, _list(U16) + _list(U64)', '("command", U32, _list(U64) + _list(U16)'),
     ("python", "SECOND_MARK, TICK = 0, 1, 2, 3, 4", "TICK, SECOND_MARK = 0, 1, 2, 3, 4"),
@@ -458,6 +509,15 @@ WRONG_INLINE = [
     ("128 * (size_t)(component_mask & 1)", "128 * (size_t)(component_mask & 3)"),
     ("(uint8_t)(component_mask >> 1)", "(uint8_t)(component_mask >> 2)"),
     ("return 20 + 2 * dfb_snapshot_samples", "return 16 + 2 * dfb_snapshot_samples"),
+    ("return 2 * samples + DFB_PACKET_HEADER", "return samples + DFB_PACKET_HEADER"),
+    ("DFB_PACKET_HEADER * (samples / 2043 + 1)", "DFB_PACKET_HEADER * (samples / 2044 + 1)"),
+    ("DFB_PACKET_HEADER * (samples / 2043 + 1)", "DFB_PACKET_HEADER * (samples / 2043)"),
+    ("DFB_PACKET_HEADER * (samples / 2043 + 1)", "DFB_PACKET_BYTES * (samples / 2043 + 1)"),
+    ("bytes_len < DFB_PACKET_HEADER", "bytes_len < DFB_PACKET_HEADER - 1"),
+    ("DFB_PACKET_HEADER + 1 + 256 * (size_t)bytes[4] + bytes[5]", "DFB_PACKET_HEADER + 256 * (size_t)bytes[4] + bytes[5]"),
+    ("256 * (size_t)bytes[4] + bytes[5]", "256 * (size_t)bytes[5] + bytes[4]"),
+    ("packet <= bytes_len ? packet : 0", "packet < bytes_len ? packet : 0"),
+    ("packet <= bytes_len ? packet : 0", "packet"),
 ]
 
 

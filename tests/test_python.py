@@ -14,6 +14,7 @@ sys.path.insert(0, os.path.join(TOP, "tools", "cases"))
 import dfb  # noqa: E402
 import counts_model  # noqa: E402
 import snapshot_model  # noqa: E402
+import space_packets_model  # noqa: E402
 import sums_model  # noqa: E402
 from checklist_model import Bad, check, command, mark, random_list  # noqa: E402
 from listing_model import random_log  # noqa: E402
@@ -500,6 +501,80 @@ class Python(unittest.TestCase):
             refusals.add(self.sums_agree(sums, given, component, pairs, *(sums_model.random_mask(r) for _ in range(2))) is None)
         self.assertEqual(refusals, {False, True})
 
+    def test_space_packets(self):
+        one = bytes.fromhex("0043 C000 0005 0001 FFFF 8000")
+        self.assertEqual(dfb.export_packets(0x43, 0, [1, -1, -32768]), (one, 1))
+        self.assertEqual(dfb.import_packet(one), dfb.SpacePacket(0x43, 0, [1, -1, -32768]))
+        last = bytes.fromhex("0047 FFFF 000D 7FFF 0100 FF00 0000 1234 0002 0003")
+        self.assertEqual(dfb.export_packets(0x47, dfb.LAST_PACKET_COUNT, (32767, 256, -256, 0, 0x1234, 2, 3)), (last, 0))
+        self.assertEqual(dfb.import_packet(list(last)), (0x47, 16383, [32767, 256, -256, 0, 0x1234, 2, 3]))
+        self.assertEqual(dfb.import_packet(bytearray(last)).count, 16383)
+        # three packets of the longer sets, and the counts go over the last one
+        samples = [n % 65536 - 32768 for n in range(0, 7 * 585 * 40503, 40503)]
+        data, count = dfb.export_packets(0x44, 16382, samples)
+        self.assertEqual((len(data), count), (2 * len(samples) + 18, 1))
+        found = []
+        while data:
+            length = dfb.packet_bytes(data)
+            found.append(dfb.import_packet(data[:length]))
+            data = data[length:]
+        self.assertEqual([(packet.apid, packet.count) for packet in found], [(0x44, 16382), (0x44, 16383), (0x44, 0)])
+        self.assertEqual([len(packet.samples) for packet in found], [dfb.PACKET_SAMPLES, dfb.PACKET_SAMPLES, 7])
+        self.assertEqual(sum((packet.samples for packet in found), []), samples)
+        self.assertEqual(len(dfb.export_packets(0x45, 0, [0] * 2043)[0]), dfb.PACKET_BYTES - 4)
+
+        self.refused(4, dfb.export_packets, 0x4E, 16384, [])
+        self.refused(4, dfb.export_packets, 0x49, 0, [1, 2, 3])
+        self.refused(22, dfb.export_packets, 0x43, 16384, [])
+        self.refused(22, dfb.export_packets, 0x43, 65535, [1, 2, 3])
+        self.refused(23, dfb.export_packets, 0x43, 0, [])
+        self.refused(23, dfb.export_packets, 0x43, 0, [1, 2, 3, 4])
+        self.refused(23, dfb.export_packets, 0x44, 0, [1, 2, 3])
+        self.refused(23, dfb.import_packet, b"")
+        self.refused(23, dfb.import_packet, one[:5])
+        self.refused(4, dfb.import_packet, b"\0\x4E" + one[2:])
+        self.refused(4, dfb.import_packet, b"\x01\x43" + one[2:])
+        self.refused(4, dfb.import_packet, b"\xFC\x43" + one[2:-1])  # 0x443, and other faults
+        for first in (0x08, 0x10, 0x20, 0x40, 0x80):
+            self.refused(22, dfb.import_packet, bytes([first]) + one[1:])
+            self.refused(22, dfb.import_packet, bytes([first]) + one[1:-1])
+        for flags in (0x00, 0x40, 0x80):
+            self.refused(22, dfb.import_packet, one[:2] + bytes([flags]) + one[3:])
+        self.refused(23, dfb.import_packet, one[:-1])
+        self.refused(23, dfb.import_packet, one + b"\0")
+        self.refused(23, dfb.import_packet, one[:5] + b"\x06" + one[6:] + b"\0")
+        self.refused(23, dfb.import_packet, one[:4] + b"\xFF\xFF")
+        # 682 sets are over 4,090 bytes
+        self.refused(23, dfb.import_packet, one[:4] + (4091).to_bytes(2, "big") + bytes(4092))
+
+    def test_packet_bytes(self):
+        self.assertEqual([dfb.packet_bytes(bytes(n)) for n in range(9)], [0, 0, 0, 0, 0, 0, 0, 7, 7])
+        for high, low in ((0, 0), (0, 5), (0, 255), (1, 0), (1, 2), (15, 251), (255, 255)):
+            length = 7 + 256 * high + low
+            data = b"\xFF\xFF\xFF\xFF" + bytes([high, low]) + bytes(length)
+            self.assertEqual([dfb.packet_bytes(data[:n]) for n in (5, 6, length - 1, length, length + 1)], [0, 0, 0, length, length])
+            self.assertEqual(dfb.packet_bytes(list(bytearray(data))), length)
+
+    def test_random_space_packets(self):
+        r = random.Random(7)
+        for _ in range(400):
+            arguments = space_packets_model.random_export(r)
+            try:
+                expected = space_packets_model.export_packets(*arguments)
+            except space_packets_model.Refused as refused:
+                self.refused(refused.number, dfb.export_packets, *arguments)
+            else:
+                self.assertEqual(dfb.export_packets(*arguments), expected)
+        for _ in range(1500):
+            packet = space_packets_model.random_packet(r)
+            for data in (packet, space_packets_model.damaged(r, packet)):
+                try:
+                    expected = space_packets_model.import_packet(data)
+                except space_packets_model.Refused as refused:
+                    self.refused(refused.number, dfb.import_packet, data)
+                else:
+                    self.assertEqual(dfb.import_packet(data), expected)
+
     def test_numbers_that_do_not_fit(self):
         board, log, sums = dfb.Board(), dfb.CountedLog(bytearray(99)), dfb.Summed()
         for function, arguments in (
@@ -555,6 +630,15 @@ class Python(unittest.TestCase):
             (sums.add, (0, 255, -1, [1] * 2048)),
             (sums.add, (0, 255, 255, [32768] * 2048)),
             (sums.add, (0, 255, 255, [1] * 2047 + [-32769])),
+            (dfb.export_packets, (0x143, 0, [1, 2, 3])),
+            (dfb.export_packets, (-1, 0, [1, 2, 3])),
+            (dfb.export_packets, (0x43, 0x10000, [1, 2, 3])),
+            (dfb.export_packets, (0x43, -1, [1, 2, 3])),
+            (dfb.export_packets, (0x43, 0, [1, 2, 32768])),
+            (dfb.export_packets, (0x43, 0, [1, 2, -32769])),
+            (dfb.import_packet, ([0, 0x43, 0xC0, 0, 0, 5, 0, 0, 0, 0, 0, 256],)),
+            (dfb.import_packet, ([-1] * 12,)),
+            (dfb.packet_bytes, ([0, 0, 0, 0, 256, 0, 0],)),
         ):
             self.assertRaises(OverflowError, function, *arguments)
         self.assertEqual(bytes(board.state), bytes(2 * dfb.STATE))

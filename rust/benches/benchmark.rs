@@ -1,7 +1,7 @@
 //! Nanoseconds of tick, coarse totals, listing, check of a command list, pack, snapshot packets read and written, components of summed
-//! spectra, and a day's log with counts, without them, and counted by the walk: the proved library beside plain C and plain Rust, which make
-//! the same checks, in one run on the same inputs. Each figure is the best of many rounds (DFB_ROUNDS, 60 unless set; a third of them for the
-//! day's log). Before a row is timed, all must agree.
+//! spectra, space packets exported and imported, and a day's log with counts, without them, and counted by the walk: the proved library beside
+//! plain C and plain Rust, which make the same checks, in one run on the same inputs. Each figure is the best of many rounds (DFB_ROUNDS, 60
+//! unless set; a third of them for the day's log). Before a row is timed, all must agree.
 #[path = "../../bench/implementations.rs"]
 mod implementations;
 #[path = "../tests/differential/model.rs"]
@@ -136,6 +136,20 @@ impl Components {
     }
 }
 
+/// Exports of one kind: so many samples, and so many calls in a round. Each goes on with the count that the one before left.
+struct Exports {
+    apid: u8,
+    samples: usize,
+    calls: usize,
+}
+
+/// Ten full packets; one set; and 100,000 sets, whose last packet is not full.
+const EXPORTS: [Exports; 3] = [
+    Exports { apid: 0x43, samples: 10 * 681 * 3, calls: 100 },
+    Exports { apid: 0x43, samples: 3, calls: 4000 },
+    Exports { apid: 0x44, samples: 100_000 * 7, calls: 4 },
+];
+
 fn nanoseconds(calls: usize, run: impl FnOnce() -> u64) -> f64 {
     let start = Instant::now();
     black_box(run());
@@ -182,6 +196,13 @@ impl Bench {
         ratios.iter().for_each(|ratio| print!("{ratio:>14.2}"));
         println!("{}", if has_limit { format!("{:>9.2}", best[0] / self.limit) } else { String::new() });
         ratios
+    }
+
+    /// Prints the row's megabytes a second.
+    fn megabytes(&self, best: &[f64], bytes: usize) {
+        print!("{:<46}", format!("  in megabytes a second, of {bytes} bytes"));
+        best.iter().for_each(|time| print!("{:>12.1}", bytes as f64 * 1000.0 / time));
+        println!();
     }
 
     fn tick(&mut self, kind: &Ticks, processors: usize, setting: u16, spectra: &Spectra) {
@@ -322,6 +343,53 @@ impl Bench {
         self.row(name, &best, false);
     }
 
+    fn export(&self, exports: &Exports) {
+        let Exports { apid, samples, calls } = *exports;
+        let (name, mut r) = (format!("export of {samples} samples of 0x{apid:02X}"), Random::new(7));
+        let samples: Vec<i16> = (0..samples).map(|_| r.next() as i16).collect();
+        let mut out = vec![0; dfb::packets_room(samples.len())];
+        let mut results = vec![];
+        for implementation in &self.implementations {
+            let mut count = [dfb::LAST_PACKET_COUNT];
+            out.fill(0);
+            results.push(((implementation.export_packets)(apid, &mut count, &samples, &mut out), count, out.clone()));
+        }
+        assert!(results.iter().all(|result| *result == results[0]), "{name}: the implementations differ");
+        let bytes = results[0].0 as usize;
+        assert!(bytes <= out.len(), "{name}: it is refused");
+
+        let best = self.best(|implementation| {
+            let mut count = [0];
+            let mut export = || (implementation.export_packets)(apid, &mut count, black_box(&samples), black_box(&mut out));
+            nanoseconds(calls, || (0..calls).map(|_| export()).sum())
+        });
+        self.row(&name, &best, false);
+        self.megabytes(&best, bytes);
+    }
+
+    /// The import of a packet of so many samples.
+    fn import(&self, apid: u8, samples: usize) {
+        let mut r = Random::new(8);
+        let samples: Vec<i16> = (0..samples).map(|_| r.next() as i16).collect();
+        let mut packet = vec![0; dfb::PACKET_HEADER + 2 * samples.len()];
+        assert_eq!(dfb::export_packets(apid, 7, &samples, &mut packet), Ok((packet.len(), 8)));
+        let name = format!("import of a packet of {} bytes of 0x{apid:02X}", packet.len());
+        for implementation in &self.implementations {
+            let (mut header, mut again) = ([0; dfb::PACKET_NUMBERS], vec![0; samples.len()]);
+            let answer = (implementation.import_packet)(&packet, &mut header, &mut again);
+            assert_eq!((answer, header), (samples.len() as u32, [apid.into(), 7]), "{name} by {}", implementation.name);
+            assert!(again == samples, "{name}: {} gives other samples", implementation.name);
+        }
+
+        let best = self.best(|implementation| {
+            let (mut header, mut again) = ([0; dfb::PACKET_NUMBERS], vec![0; samples.len()]);
+            let mut import = || (implementation.import_packet)(black_box(&packet), black_box(&mut header), black_box(&mut again)) as u64;
+            nanoseconds(PACKETS, || (0..PACKETS).map(|_| import()).sum())
+        });
+        self.row(&name, &best, false);
+        self.megabytes(&best, packet.len());
+    }
+
     /// A day's log, written with counts, written by append one record at a time, and counted by the walk.
     fn day(&self, day: &Day) {
         let (rounds, mut log) = (self.rounds.div_ceil(3), vec![0; Day::BYTES]);
@@ -353,9 +421,7 @@ impl Bench {
             nanoseconds(1, || (implementation.count_sets)(black_box(&log), &mut tally.0, &mut tally.1))
         });
         self.row("counts of the day's log by the walk", &best, false);
-        print!("{:<46}", format!("  in megabytes a second, of {} bytes", Day::BYTES));
-        best.iter().for_each(|time| print!("{:>12.1}", Day::BYTES as f64 * 1000.0 / time));
-        println!();
+        self.megabytes(&best, Day::BYTES);
     }
 }
 
@@ -501,6 +567,8 @@ fn main() {
     bench.pack();
     [8, 0].into_iter().for_each(|components| bench.snapshot(components));
     SUMS.iter().for_each(|components| bench.sum(components));
+    EXPORTS.iter().for_each(|exports| bench.export(exports));
+    [681 * 3, 3].into_iter().for_each(|samples| bench.import(0x43, samples));
     bench.day(&Day::new(&mut r));
     println!("interval of 16,000 criteria: {:.1} ns", interval(rounds));
 

@@ -54,6 +54,17 @@ pub const SUM_PAIRS: usize = 2048;
 /// The least length of a sum's output.
 pub const SUM_OUTPUT: usize = 4096;
 
+/// The length of a space packet's primary header.
+pub const PACKET_HEADER: usize = 6;
+/// No space packet has more bytes, with its header.
+pub const PACKET_BYTES: usize = 4096;
+/// The greatest count of a space packet: 0 comes after it.
+pub const LAST_PACKET_COUNT: u16 = 16383;
+/// No space packet has more samples.
+pub const PACKET_SAMPLES: usize = 2044;
+/// The numbers of a space packet's header, as a list: APID and count.
+pub const PACKET_NUMBERS: usize = 2;
+
 /// A refusal, with its number in the rules. 13 is not used.
 #[derive(Clone, Copy, Debug, PartialEq, Eq)]
 #[repr(u8)]
@@ -78,6 +89,8 @@ pub enum Refusal {
     SecondFalls = 19,
     ValueAltered = 20,
     AveragesOverPeriod = 21,
+    WrongHeaderField = 22,
+    WrongDataLength = 23,
     TotalTooLarge = 24,
     TurnedAway = 25,
     NothingToSend = 26,
@@ -115,6 +128,8 @@ impl Refusal {
             Refusal::SecondFalls => "the second is smaller than that of the mark before it",
             Refusal::ValueAltered => "the register would store another value than the one sent",
             Refusal::AveragesOverPeriod => "a processor is enabled and N is above C",
+            Refusal::WrongHeaderField => "a space packet's header field is not as stated, or the first count is over 16383",
+            Refusal::WrongDataLength => "a space packet has a wrong length, or its samples are none or not whole sets",
             Refusal::TotalTooLarge => "a band total is over 2^49",
             Refusal::TurnedAway => "no slot is free and no held slot has a smaller criterion",
             Refusal::NothingToSend => "nothing is held to send, or no criterion is above 0",
@@ -146,6 +161,8 @@ impl Refusal {
             19 => Refusal::SecondFalls,
             20 => Refusal::ValueAltered,
             21 => Refusal::AveragesOverPeriod,
+            22 => Refusal::WrongHeaderField,
+            23 => Refusal::WrongDataLength,
             24 => Refusal::TotalTooLarge,
             25 => Refusal::TurnedAway,
             26 => Refusal::NothingToSend,
@@ -280,6 +297,14 @@ impl TryFrom<[u32; SNAPSHOT_HEADER]> for SnapshotHeader {
     }
 }
 
+/// What the header of a space packet says of it.
+#[derive(Clone, Copy, Debug, PartialEq, Eq)]
+pub struct PacketHeader {
+    pub apid: u16,
+    /// At most `LAST_PACKET_COUNT`.
+    pub count: u16,
+}
+
 /// The functions of libdfb.a as C declares them.
 pub mod ffi {
     extern "C" {
@@ -402,6 +427,23 @@ pub mod ffi {
             pairs_len: usize,
             out: *mut u8,
             out_len: usize,
+        ) -> u32;
+        pub fn dfb_export_packets(
+            apid: u8,
+            count: *mut u16,
+            count_len: usize,
+            samples: *const i16,
+            samples_len: usize,
+            out: *mut u8,
+            out_len: usize,
+        ) -> u64;
+        pub fn dfb_import_packet(
+            packet: *const u8,
+            packet_len: usize,
+            header: *mut u16,
+            header_len: usize,
+            samples: *mut i16,
+            samples_len: usize,
         ) -> u32;
     }
 }
@@ -972,4 +1014,66 @@ pub fn sum_component(
         )
     };
     answer(number.into(), REFUSED_16).map(|bytes| bytes as usize)
+}
+
+/// Bytes that are enough for the space packets of so many samples, whatever their APID.
+pub const fn packets_room(samples: usize) -> usize {
+    2 * samples + PACKET_HEADER * (samples / 2043 + 1)
+}
+
+/// How many bytes the space packet at the front of a list has, by its own length field; the next packet begins behind them. 0 where the list
+/// is shorter than that, or than a header.
+pub fn packet_bytes(bytes: &[u8]) -> usize {
+    match *bytes {
+        [_, _, _, _, high, low, ..] => {
+            let packet = PACKET_HEADER + 1 + u16::from_be_bytes([high, low]) as usize;
+            if packet <= bytes.len() {
+                packet
+            } else {
+                0
+            }
+        }
+        _ => 0,
+    }
+}
+
+/// Exports whole sets of a waveform APID as space packets (CCSDS 133.0-B), one after the other, each with as many sets as fit: the bytes
+/// written to the start of `out`, and the next count. `first` is the count of the first packet. Refusals 4 (0x4E too), 22 for a first count
+/// over `LAST_PACKET_COUNT`, 23 for samples that are none or not whole sets, then 2 where `out` is shorter than the packets.
+///
+/// ```
+/// let samples = [1, -2, 256].repeat(682); // 682 sets of 3: one more than fit
+/// let mut out = vec![0; dfb::packets_room(samples.len())];
+/// assert_eq!(dfb::export_packets(0x43, dfb::LAST_PACKET_COUNT, &samples, &mut out)?, (4092 + 12, 1));
+/// assert_eq!(out[..12], [0x00, 0x43, 0xFF, 0xFF, 0x0F, 0xF5, 0x00, 0x01, 0xFF, 0xFE, 0x01, 0x00]);
+/// assert_eq!(out[4092..4098], [0x00, 0x43, 0xC0, 0x00, 0x00, 0x05]);
+///
+/// let (first, last) = out[..4104].split_at(dfb::packet_bytes(&out));
+/// let mut imported = [0; dfb::PACKET_SAMPLES];
+/// assert_eq!(dfb::import_packet(first, &mut imported)?, (dfb::PacketHeader { apid: 0x43, count: 16383 }, 2043));
+/// assert_eq!(imported[..2043], samples[..2043]);
+/// assert_eq!(dfb::import_packet(last, &mut imported)?, (dfb::PacketHeader { apid: 0x43, count: 0 }, 3));
+/// assert_eq!(dfb::import_packet(&last[..11], &mut imported), Err(dfb::Refusal::WrongDataLength));
+/// # Ok::<(), dfb::Refusal>(())
+/// ```
+pub fn export_packets(apid: u8, first: u16, samples: &[i16], out: &mut [u8]) -> Result<(usize, u16), Refusal> {
+    let mut count = [first];
+    // SAFETY: as in command.
+    let number = unsafe {
+        ffi::dfb_export_packets(apid, count.as_mut_ptr(), count.len(), samples.as_ptr(), samples.len(), out.as_mut_ptr(), out.len())
+    };
+    answer(number, REFUSED_63).map(|bytes| (bytes as usize, count[0]))
+}
+
+/// Imports one space packet: its header, and how many samples were written. Refusals 23 for a packet under 6 bytes, 4 (0x4E too), 22 for another
+/// field of the header that is not as stated, 23 for bytes behind the header that are not as many as its length field says, too many for
+/// `PACKET_BYTES`, not whole sets, or none, then 2 where `samples` are fewer.
+pub fn import_packet(packet: &[u8], samples: &mut [i16]) -> Result<(PacketHeader, usize), Refusal> {
+    let mut numbers = [0; PACKET_NUMBERS];
+    // SAFETY: as in command.
+    let number = unsafe {
+        ffi::dfb_import_packet(packet.as_ptr(), packet.len(), numbers.as_mut_ptr(), numbers.len(), samples.as_mut_ptr(), samples.len())
+    };
+    let [apid, count] = numbers;
+    answer(number.into(), REFUSED_16).map(|written| (PacketHeader { apid, count }, written as usize))
 }

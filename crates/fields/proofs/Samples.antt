@@ -6,8 +6,8 @@ use native.Mathlib.Omega.{arith}
 use borrow.Author.Tests.{ltb-true, ltb-false, le-leb}
 use lib.Dec.{ltb}
 use lib.IntN.{ℤ, pos}
-use lib.ListN.{length, getD, take, drop, length-drop}
-use lib.Seq.{getD-drop, take-at, drop-at}
+use lib.ListN.{length, getD, drop, length-drop}
+use lib.Seq.{getD-drop}
 use lib.Signed.{mag}
 use Rattle.lists.specs.Tables.{tabulate, concatTo, overwrite}
 use Rattle.lists.proofs.Choices.{cond-at}
@@ -16,7 +16,7 @@ use Rattle.words.specs.Sample.{bitsOf, sampleOf, Are16}
 use Rattle.words.specs.Words.{pairBytes, pairAt, pairOf, AreBytes}
 use Rattle.words.proofs.Signed.{sample-of-bits, bits-of-sample, sample-at}
 use Rattle.fields.specs.Samples.{sampleBytes, samplesAt, putOutcome}
-use Rattle.fields.specs.Private.{reversedSample, reversedSamples, exchanged, exchangedSamples}
+use Rattle.fields.specs.Private.{exchangedBits}
 use Rattle.fields.proofs.Numbers.{byte-at}
 use Rattle.fields.proofs.Pairs.{pairs-length, pair-of}
 
@@ -40,36 +40,12 @@ pub samples-length : (n : ℕ) (bytes : List ℕ) (at : ℕ) → length (samples
 unfolding samplesAt
 samples-length n bytes at = length-tabulate n _
 
--- samples whose bytes were read the other way round, and then exchanged
-exchanged-pair : (a b : ℕ) → a < 256 → b < 256 → exchanged (sampleOf (pairOf b a)) ≡ sampleOf (pairOf a b)
+-- bytes that were read the other way round, and then exchanged
+pub exchanged-pair : (a b : ℕ) → a < 256 → b < 256 → exchangedBits (pairOf b a) ≡ pairOf a b
 exchanged-pair a b h k =
-    let bits : bitsOf (sampleOf (pairOf b a)) ≡ b * 256 + a = bits-of-sample (b * 256 + a) (omega arith) in
-    let low : bitsOf (sampleOf (pairOf b a)) % 256 ≡ a = omega (arith, bits) in
-    let high : bitsOf (sampleOf (pairOf b a)) / 256 ≡ b = omega (arith, bits) in
-    ap sampleOf (ap₂ pairOf low high)
-
-pub reversed-length : (n : ℕ) (bytes : List ℕ) → length (reversedSamples n bytes) ≡ n
-unfolding reversedSamples
-reversed-length n bytes = length-tabulate n (reversedSample bytes)
-
-pub exchanged-reversed : (n : ℕ) (bytes : List ℕ) → ((i : ℕ) → getD bytes i 0 < 256) → exchangedSamples (reversedSamples n bytes) ≡ samplesAt n bytes 0
-unfolding reversedSamples exchangedSamples samplesAt
-exchanged-reversed n bytes small =
-    ap (λ (m : ℕ). tabulate m (λ i. exchanged (getD (tabulate n (reversedSample bytes)) i (pos 0)))) (length-tabulate n (reversedSample bytes))
-    ∙ tabulate-ext n _ _
-    (λ i h. let place : 2 * i ≡ 0 + 2 * i = omega arith in
-    ap exchanged (getD-tabulate n (reversedSample bytes) (pos 0) i h)
-    ∙ exchanged-pair (getD bytes (2 * i) 0) (getD bytes (2 * i + 1) 0) (small (2 * i)) (small (2 * i + 1))
-    ∙ ap (λ (j : ℕ). sampleOf (pairAt bytes j)) place)
-
--- the front of a list with such samples, exchanged
-pub exchanged-front : (n k : ℕ) (bytes : List ℕ) (out mid part : List ℤ) → ((i : ℕ) → getD bytes i 0 < 256) → k ≡ n →
-    mid ≡ overwrite (reversedSamples n bytes) out → part ≡ exchangedSamples (take k mid) → part ++ drop k mid ≡ overwrite (samplesAt n bytes 0) out
-exchanged-front n k bytes out mid part small e m p =
-    let front : take k mid ≡ reversedSamples n bytes = rw (e, m) (take-at (reversedSamples n bytes) _ n (reversed-length n bytes)) in
-    let rest : drop k mid ≡ drop n out = rw (e, m, drop-at (reversedSamples n bytes) _ n (reversed-length n bytes), reversed-length n bytes) in
-    ap₂ (λ (x y : List ℤ). x ++ y) (p ∙ ap exchangedSamples front ∙ exchanged-reversed n bytes small)
-    (rest ∙ ap (λ (j : ℕ). drop j out) (sym (samples-length n bytes 0)))
+    let low : (b * 256 + a) % 256 ≡ a = omega arith in
+    let high : (b * 256 + a) / 256 ≡ b = omega arith in
+    ap₂ pairOf low high
 
 -- samples from a place on are those of the bytes there
 pub samples-drop : (n : ℕ) (bytes : List ℕ) (at : ℕ) → samplesAt n (drop at bytes) 0 ≡ samplesAt n bytes at

@@ -1,5 +1,5 @@
 -- What is claimed of numbers and samples in a packet. Assumes nothing.
-use Prim.Native.Nat.{ℕ, _+_, _*_, _≤_}
+use Prim.Native.Nat.{ℕ, _+_, _*_, _^_, _≤_, _<_}
 use mathlib.Core.Path.{_≡_}
 use mathlib.Core.List.{List, [], _∷_, _++_}
 use lib.IntN.{ℤ, pos, negsuc}
@@ -7,6 +7,7 @@ use lib.ListN.{length, take, drop}
 use Rattle.words.specs.Sample.{Are16}
 use Rattle.words.specs.Words.{AreBytes}
 use Rattle.fields.specs.Fields.{Field, numbersIn, fieldBytes, sizeOf, FollowFrom, FitFields}
+use Rattle.fields.specs.BitFields.{widthOf, joined, separated, FitWidths}
 use Rattle.fields.specs.Samples.{sampleBytes, samplesAt}
 
 -- ---- fields that follow one another: one round trip each way, for every list of fields
@@ -22,6 +23,18 @@ abbrev pub BytesReturn : Type 0
 BytesReturn =
     (fs : List Field) (bytes : List ℕ) (at : ℕ) → AreBytes bytes → FollowFrom at fs → at + sizeOf fs ≤ length bytes →
     fieldBytes fs (numbersIn fs bytes) ≡ take (sizeOf fs) (drop at bytes)
+
+-- ---- fields of bits: the same, for every list of widths
+
+abbrev pub SeparatedReturn : Type 0
+SeparatedReturn = (ws xs : List ℕ) → FitWidths ws xs → separated ws (joined ws xs) ≡ xs
+
+abbrev pub JoinedReturn : Type 0
+JoinedReturn = (ws : List ℕ) (n : ℕ) → n < 2 ^ widthOf ws → joined ws (separated ws n) ≡ n
+
+-- the first field in the highest bits
+abbrev pub WorkedBits : Type 0
+WorkedBits = joined (3 ∷ 1 ∷ 4 ∷ []) (5 ∷ 0 ∷ 9 ∷ []) ≡ 0xA9
 
 -- ---- samples: the same, for every list
 

@@ -8,13 +8,14 @@ use lib.Dec.{eqb}
 use Rattle.refusal.specs.Number.{numberOf}
 use Rattle.refusal.specs.Claims.{OneNumber, ThirteenUnused}
 use Rattle.refusal.specs.declared.Refusal.{Refusal}
-use Rattle.refusal.specs.declared.Refusal.the-variants.{UnknownCommand, WrongLength, UnsoundState, UnknownApid, IncompleteSet, NoProcessorEnabled, IllegalBandCode, SumCodeOverflow, UnknownRecordKind, TruncatedBody, InputTooLong, OutOfRange, UnknownPacket, PacketOutOfRange, WrongPacketLength, ComponentOutOfOrder, KindNotInProfile, SecondFalls, ValueAltered, AveragesOverPeriod, TotalTooLarge, TurnedAway, NothingToSend, AlreadySending, NoneSending, ZeroLimit}
+use Rattle.refusal.specs.declared.Refusal.the-variants.{UnknownCommand, WrongLength, UnsoundState, UnknownApid, IncompleteSet, NoProcessorEnabled, IllegalBandCode, SumCodeOverflow, UnknownRecordKind, TruncatedBody, InputTooLong, OutOfRange, UnknownPacket, PacketOutOfRange, WrongPacketLength, ComponentOutOfOrder, KindNotInProfile, SecondFalls, ValueAltered, AveragesOverPeriod, WrongHeaderField, WrongDataLength, TotalTooLarge, TurnedAway, NothingToSend, AlreadySending, NoneSending, ZeroLimit}
 
 all : List Refusal
 all =
     WrongLength ∷ UnsoundState ∷ UnknownApid ∷ IncompleteSet ∷ NoProcessorEnabled ∷ IllegalBandCode ∷ SumCodeOverflow ∷ UnknownRecordKind
     ∷ TruncatedBody ∷ InputTooLong ∷ OutOfRange ∷ UnknownPacket ∷ PacketOutOfRange ∷ WrongPacketLength ∷ ComponentOutOfOrder ∷ KindNotInProfile
-    ∷ SecondFalls ∷ ValueAltered ∷ AveragesOverPeriod ∷ TotalTooLarge ∷ TurnedAway ∷ NothingToSend ∷ AlreadySending ∷ NoneSending ∷ ZeroLimit ∷ []
+    ∷ SecondFalls ∷ ValueAltered ∷ AveragesOverPeriod ∷ WrongHeaderField ∷ WrongDataLength ∷ TotalTooLarge ∷ TurnedAway ∷ NothingToSend ∷ AlreadySending
+    ∷ NoneSending ∷ ZeroLimit ∷ []
 
 -- the refusal of the list that has the number, and the first refusal where none has
 withNumber : ℕ → List Refusal → Refusal
@@ -43,6 +44,8 @@ found KindNotInProfile = refl
 found SecondFalls = refl
 found ValueAltered = refl
 found AveragesOverPeriod = refl
+found WrongHeaderField = refl
+found WrongDataLength = refl
 found TotalTooLarge = refl
 found TurnedAway = refl
 found NothingToSend = refl

@@ -14,6 +14,11 @@ abbrev pub isGiven : {A : Type 0} → Outcome A → Bool
 isGiven (given a) = true
 isGiven (refused n) = false
 
+-- the number of its refusal; 0 if there is none
+abbrev pub refusalOf : {A : Type 0} → Outcome A → ℕ
+refusalOf (given a) = 0
+refusalOf (refused n) = n
+
 -- What a call leaves that writes a lent buffer: its answer, and the buffer afterwards.
 pub record Filled (A : Type 0) : Type 0 where
   pub answer : Outcome ℕ

@@ -1,5 +1,5 @@
 -- The claims on packets. Assumes nothing.
-use Prim.Native.Nat.{ℕ, _+_, _≤_, _<_}
+use Prim.Native.Nat.{ℕ, _≤_, _<_}
 use mathlib.Core.Path.{_≡_, refl, sym, ap, ap₂, subst, _∙_}
 use mathlib.Core.Bool.{true, false, not}
 use mathlib.Core.List.{List, _++_}
@@ -11,6 +11,7 @@ use lib.ListN.{length, take, take-append-drop}
 use lib.Seq.{take-at}
 use Rattle.lists.specs.Tables.{overwrite}
 use Rattle.lists.proofs.Choices.{by-cases, cond-at, both}
+use Rattle.lists.proofs.Overwriting.{same-front}
 use Rattle.refusal.specs.Outcome.{Outcome, given, refused, Filled}
 use Rattle.refusal.proofs.Outcomes.{refused-given, given-refused, given-same}
 use Rattle.words.specs.Words.{AreBytes}
@@ -98,11 +99,6 @@ read-accepted packet out found e = by (headerFound packet) refl e
           count = sym many ∙ ap (λ (g : Header). sampleCount (g .mask)) head;
           samples = rw (s, q, many);
         })
-
--- lists of one length that stand at the front of a list
-same-front : (xs ys out : List ℤ) → length xs ≡ length ys → overwrite xs out ≡ overwrite ys out → xs ≡ ys
-same-front xs ys out long e =
-    sym (take-at xs _ (length xs) refl) ∙ ap (take (length xs)) e ∙ take-at ys _ (length xs) (sym long)
 
 pub read-exactly : ReadExactly
 read-exactly packet h samples out are room = (forth, back)

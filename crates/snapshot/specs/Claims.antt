@@ -7,7 +7,7 @@ use lib.Count.{ones}
 use lib.IntN.{ℤ, pos, negsuc}
 use lib.ListN.{length, take, replicate}
 use Rattle.lists.specs.Tables.{overwrite}
-use Rattle.refusal.specs.Outcome.{Outcome, given, refused}
+use Rattle.refusal.specs.Outcome.{given, refused, refusalOf}
 use Rattle.words.specs.Sample.{Are16}
 use Rattle.words.specs.Words.{AreBytes}
 use Rattle.fields.specs.Fields.{sizeOf, FollowFrom, FitFields}
@@ -114,11 +114,6 @@ WorkedPacket =
 abbrev pub packetOf : ℕ → ℕ → ℕ → ℕ → ℕ → ℕ → ℕ → List ℕ
 packetOf sid auxiliary mask total-high total-low number-high number-low =
     sid ∷ 1 ∷ 2 ∷ 3 ∷ 4 ∷ 5 ∷ 6 ∷ auxiliary ∷ 7 ∷ 8 ∷ 9 ∷ 10 ∷ 11 ∷ mask ∷ total-high ∷ total-low ∷ 12 ∷ 13 ∷ number-high ∷ number-low ∷ []
-
--- the refusal of an outcome; 0 if there is none
-abbrev pub refusalOf : {A : Type 0} → Outcome A → ℕ
-refusalOf (given a) = 0
-refusalOf (refused n) = n
 
 -- accepted at a total of 3072 and its last packet; 19 bytes; SID 34; auxiliary length 0; total 3073; packet number equal to the total; a total of 0; a
 -- mask of 1 without samples, and with a byte too few; the first of two faults

@@ -15,6 +15,7 @@ mod readings;
 mod refusals;
 mod sets;
 mod snapshots;
+mod space_packets;
 mod sums;
 
 #[allow(dead_code)]

@@ -1,9 +1,9 @@
-//! The plain C of the benchmark and its plain Rust tick, coarse totals, append, check of command lists, counted logs, snapshot packets and
-//! summed spectra against the model, so that it compares programs that do the same.
+//! The plain C of the benchmark and its plain Rust tick, coarse totals, append, check of command lists, counted logs, snapshot packets, summed
+//! spectra and space packets against the model, so that it compares programs that do the same.
 use crate::implementations::{plain_c, plain_rust};
 use crate::model::{self, Board, POWERS, STATE, TOTALS};
 use crate::random::{seeds, Buffer, Random};
-use crate::{board, check, coarse, counts, logs, snapshots, sums};
+use crate::{board, check, coarse, counts, logs, snapshots, space_packets, sums};
 use std::collections::BTreeMap;
 
 /// A tick's answer as a number of include/dfb.h.
@@ -150,6 +150,22 @@ fn summed_spectra() {
         }
         for seed in seeds(50) {
             sums::compare_history(&mut Random::new(seed), &implementation, 3);
+        }
+    }
+}
+
+#[test]
+fn packets_of_sets() {
+    let mut r = Random::new(4);
+    for implementation in plain_c().into_iter().chain([plain_rust()]) {
+        space_packets::faulty_exports(|call, refusal| {
+            assert_eq!(space_packets::compare_export(&mut r, &implementation, call).err(), refusal);
+        });
+        space_packets::faulty_imports(|call, refusal| {
+            assert_eq!(space_packets::compare_import(&mut r, &implementation, call).err(), refusal);
+        });
+        for seed in seeds(5000) {
+            space_packets::compare_any(&mut Random::new(seed), &implementation, &mut Default::default());
         }
     }
 }

@@ -1,7 +1,7 @@
 //! The refusals: numbers and texts, copied by hand.
 use dfb::{Refusal, RefusedAt};
 
-const REFUSALS: [(Refusal, u8, &str); 26] = [
+const REFUSALS: [(Refusal, u8, &str); 28] = [
     (Refusal::UnknownCommand, 1, "the command ID is outside 0x30 to 0x36"),
     (Refusal::WrongLength, 2, "a list has a wrong length, an output is too small, or a place or number does not fit"),
     (Refusal::UnsoundState, 3, "the state is not one that the board, the slots, the counting writer or a sum can have left"),
@@ -22,6 +22,8 @@ const REFUSALS: [(Refusal, u8, &str); 26] = [
     (Refusal::SecondFalls, 19, "the second is smaller than that of the mark before it"),
     (Refusal::ValueAltered, 20, "the register would store another value than the one sent"),
     (Refusal::AveragesOverPeriod, 21, "a processor is enabled and N is above C"),
+    (Refusal::WrongHeaderField, 22, "a space packet's header field is not as stated, or the first count is over 16383"),
+    (Refusal::WrongDataLength, 23, "a space packet has a wrong length, or its samples are none or not whole sets"),
     (Refusal::TotalTooLarge, 24, "a band total is over 2^49"),
     (Refusal::TurnedAway, 25, "no slot is free and no held slot has a smaller criterion"),
     (Refusal::NothingToSend, 26, "nothing is held to send, or no criterion is above 0"),

@@ -1,5 +1,5 @@
 -- `fields::get_samples` meets its contract: the tests pick the case of the rule. Assumes nothing.
-use Prim.Native.Nat.{ℕ, _-_, _/_, _%_}
+use Prim.Native.Nat.{_/_, _%_}
 use mathlib.Core.Path.{_≡_, ap}
 use mathlib.Core.Bool.{true, false}
 use mathlib.Core.List.{List}
@@ -8,12 +8,9 @@ use borrow.Author.Needs.{needs}
 use borrow.Author.Tests.{eq-eqb, ne-eqb, le-leb, lt-leb}
 use lib.Dec.{eqb, leb}
 use lib.IntN.{ℤ}
-use lib.ListN.{length, getD}
-use mir.Syntax.{w8}
-use mir.Val.{Fits}
+use lib.ListN.{length}
 use Rattle.refusal.specs.Outcome.{given}
 use Rattle.fields.specs.Samples.{getOutcome}
-use Rattle.fields.proofs.Samples.{exchanged-front}
 use Rattle.fields.proofs.get_samples.Statement.{statement}
 use Rattle.fields.proofs.get_samples.Tie as tie
 
@@ -32,32 +29,14 @@ returns-2 c =
     let short : leb (length (a .bytes .now) / 2) (length (a .samples .now)) ≡ false = lt-leb (length (a .bytes .now) / 2) (length (a .samples .now)) (omega arith) in
     simp (even, short)
 
--- a byte is below 256
-small : (c : tie.After-shared-slice-known) (i : ℕ) → Fits w8 (getD (c .before .args .bytes .now) i 0)
-small c i = c .shared-slice-known .given i
-
 returns-3 : tie.Need-returns-3
 unfolding getOutcome
 returns-3 c =
-    let known = c .before .before .before .before .before .before .before .before in
-    let a = known .before .args in
+    let a = c .before .before .before .before .before .before .args in
     let n = length (a .bytes .now) / 2 in
     let even : eqb (length (a .bytes .now) % 2) 0 ≡ true = eq-eqb (length (a .bytes .now) % 2) 0 (omega arith) in
     let room : leb (length (a .bytes .now) / 2) (length (a .samples .now)) ≡ true = le-leb (length (a .bytes .now) / 2) (length (a .samples .now)) (omega arith) in
-    simp (even, room)
-    (ap (λ (l : List ℤ). record { answer = given n; buffer = l })
-    (exchanged-front n (n - 0) (a .bytes .now) (a .samples .now) _ _ (λ i. small known i .fits) (omega arith) (c .before .before .before .before .get-reversed .ensures) (c .before .exchange-each .ensures)))
+    simp (even, room) (ap (λ (l : List ℤ). record { answer = given n; buffer = l }) (c .before .get-each .ensures))
 
 pub get-samples-spec : {M : Type 1} → statement M
-get-samples-spec =
-    tie.close
-    (tie.spec
-    returns
-    returns-2
-    (λ c κs. (omega arith, omega arith))
-    (λ c. search needs)
-    (λ c. search needs)
-    (λ c. search needs)
-    (λ c κs. search needs)
-    (λ c. search needs)
-    returns-3)
+get-samples-spec = tie.close (tie.spec returns returns-2 (λ c κs. (omega arith, omega arith)) (λ c. search needs) returns-3)

@@ -1,12 +1,12 @@
 -- `fields::put_each` meets its contract. The loop: the output begins with the bytes of the samples so far, and is as it was after them.
 -- Assumes nothing.
-use Prim.Native.Nat.{ℕ, _+_, _-_, _*_, _≤_}
-use mathlib.Core.Path.{_≡_, refl, sym, ap, _∙_}
+use Prim.Native.Nat.{ℕ, _+_, _-_, _*_, _/_, _%_, _≤_}
+use mathlib.Core.Path.{_≡_, refl, sym, ap, ap₂, _∙_}
 use mathlib.Core.List.{_++_}
 use native.Mathlib.Omega.{arith}
 use borrow.Author.Needs.{needs}
 use lib.IntN.{pos}
-use lib.ListN.{length, getD, drop, length-set}
+use lib.ListN.{length, getD, set, drop}
 use mir.Syntax.{w16}
 use mir.Val.{SFits}
 use mir.ValLaws.{toZ-ofZ}
@@ -32,12 +32,20 @@ loop-holds c = (omega arith, refl, c .before .pre, refl, refl)
 
 loop-again : tie.Need-loop-again Inv-loop μ-loop
 loop-again c =
-    let a = c .before .before .before .before .before .args in
-    let l = c .before .before .before .loop in
+    let call = c .before .before in
+    let a = call .before .before .before .before .before .before .before .before .args in
+    let l = call .before .before .before .before .before .before .loop in
+    let given = call .before .before .before in
     let z = getD (a .samples .now) (l .i) (pos 0) in
-    let fit : SFits w16 z = record { sfits = c .before .bits-of-arg .given } in
-    let bits : c .bits-of .result ≡ bitsOf z = c .bits-of .ensures ∙ ap bitsOf (toZ-ofZ w16 z fit) in
-    (omega arith, l .inv .1, l .inv .2, simp length-set (l .inv .3), pairs-more (bitsAt (a .samples .now)) (a .out .now) (l .out) (l .i) _ (omega arith) (l .inv .4) bits)
+    let fit : SFits w16 z = record { sfits = given .before .bits-of-arg .given } in
+    let bits : given .bits-of .result ≡ bitsOf z = given .bits-of .ensures ∙ ap bitsOf (toZ-ofZ w16 z fit) in
+    let b = given .bits-of .result in
+    let swapped = call .before .before .exchanged in
+    let first : swapped .result % 256 ≡ b / 256 = omega (arith, swapped .ensures, given .bits-of .ok) in
+    let second : swapped .result / 256 ≡ b % 256 = omega (arith, swapped .ensures, given .bits-of .ok) in
+    let put : call .put-low-first .last .1 .1 .0 ≡ set (set (l .out) (2 * l .i) (b / 256)) (2 * l .i + 1) (b % 256) =
+    call .put-low-first .ensures ∙ ap₂ (λ (x y : ℕ). set (set (l .out) (2 * l .i) x) (2 * l .i + 1) y) first second in
+    (omega arith, l .inv .1, l .inv .2, call .put-low-first .kept .1 .1 .0 ∙ l .inv .3, put ∙ pairs-more (bitsAt (a .samples .now)) (a .out .now) (l .out) (l .i) b (omega arith) (l .inv .4) bits)
 
 returns : tie.Need-returns Inv-loop μ-loop
 unfolding sampleBytes
@@ -58,15 +66,10 @@ put-each-spec =
     (λ c. search needs)
     (λ c. search needs)
     (λ c κs. search needs)
+    (λ c κs. search needs)
+    (λ c κs. omega (arith, c .before .before .before .before .before .loop .inv .3))
     (λ c. search needs)
-    (λ c. omega arith)
-    (λ c. omega arith)
     (λ c. search needs)
-    (λ c. omega arith)
-    (λ c. omega arith)
-    (λ c. simp length-set (omega arith))
-    (λ c. omega arith)
-    (λ c. omega arith)
     loop-again
     (λ c. c .before .loop .inv .3)
     returns)

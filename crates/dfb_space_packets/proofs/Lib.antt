@@ -1,0 +1,3 @@
+-- The laws that the proofs cite, and the claims.
+pub mod Imports
+pub mod Theorems
