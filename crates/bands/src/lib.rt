@@ -1,4 +1,6 @@
 // FFT bins and bands (01, "Bands"): the band of a bin, the description of a band in hertz, and the cadence of reports.
+#![tactic(auto)]
+
 ghost use Rattle.std.specs.Prelude.{◌≡◌, ◌-◌};
 ghost use Rattle.bands.specs.Private.{band_bins_outcome, band_bins};
 ghost use Rattle.bands.specs.Answer.{band_index_outcome, band_found, band_description_outcome, band_described, cadence_outcome, cadence_of};
@@ -11,28 +13,28 @@ use registers::Registers;
 pub const BINS: u16 = 1024;
 
 // The band of an FFT bin, or refusal 12.
-#[derive(Drop)]
+#[derive(Clone, Copy)]
 pub enum BandIndex {
     Band(u8),
     Refused(Refusal),
 }
 
 // The bins of a band: so many from start on.
-#[derive(Drop)]
+#[derive(Clone, Copy)]
 struct BinRange {
     start: u16,
     width: u16,
 }
 
 // The bins of a band, or refusal 12.
-#[derive(Drop)]
+#[derive(Clone, Copy)]
 enum BandBins {
     Bins(BinRange),
     Refused(Refusal),
 }
 
 // A band in hertz.
-#[derive(Drop)]
+#[derive(Clone, Copy)]
 pub struct Description {
     pub low: f32,
     pub centre: f32,
@@ -40,14 +42,14 @@ pub struct Description {
 }
 
 // The description of a band, or refusal 12.
-#[derive(Drop)]
+#[derive(Clone, Copy)]
 pub enum BandDescription {
     Described(Description),
     Refused(Refusal),
 }
 
 // How often reports come: a rate per second, a period in seconds, or refusal 12.
-#[derive(Drop)]
+#[derive(Clone, Copy)]
 pub enum Cadence {
     Rate(f32),
     Period(f32),

@@ -1,5 +1,7 @@
 // The board: commands and ticks (01, "Periods", and 02, ticket 13). The state goes in and comes back; the totals, the powers and the output
 // are the caller's. Crate `model` has the types, the rules, and a read, which is the state's own.
+#![tactic(auto)]
+
 ghost use Rattle.std.specs.Prelude.{◌≡◌, true, cond, ◌+◌, ◌-◌, ◌<◌, ◌≤◌, eqb, length};
 ghost use Rattle.registers.specs.Store.{stored};
 ghost use Rattle.registers.specs.Access.{is_id, registers_sound, stored_to};

@@ -1,6 +1,8 @@
 // Prints what the board answers for 01's numbers that are not starred, as ticket 5 amends them: a write and a read, and powers through real
 // ticks; and for ticket 13 the numbers of reports. tools/cases/vectors.py writes the expected output, from 01 and the tickets. A refusal is
 // printed as 1,000,000 and its number.
+#![tactic(auto)]
+
 use codes::BandValue;
 use model::{State, TickAnswer};
 use refusal::Refusal;

@@ -1,4 +1,6 @@
 // Burst slots (02, tickets 9 and 10; source document 004, sections 1.2 and 2.3): blocks are held with a criterion until one is sent.
+#![tactic(auto)]
+
 ghost use Rattle.std.specs.Prelude.{◌≡◌, ◌≤◌, ◌<◌};
 ghost use Rattle.bursts.specs.Slots.{lowest_slot, is_sending, greatest_held, sending_slots, sound, changed, looked_at, done_outcome, offered_outcome, offer_outcome, choose_outcome, finish_outcome};
 ghost use Rattle.bursts.specs.Searches.{place_for};
@@ -8,7 +10,7 @@ use refusal::Refusal;
 // The greatest number of slots.
 pub const MOST_SLOTS: usize = 32;
 
-#[derive(Drop)]
+#[derive(Clone, Copy)]
 pub enum SlotState {
     Free,
     // a block with its criterion
@@ -16,27 +18,27 @@ pub enum SlotState {
     Sending,
 }
 
-#[derive(Drop)]
+#[derive(Clone, Copy)]
 pub struct Slot {
     pub state: SlotState,
 }
 
 // The first slots, as many as count says; the others are not looked at.
-#[derive(Drop)]
+#[derive(Clone, Copy)]
 pub struct Slots {
     pub slot: [Slot; 32],
     pub count: usize,
 }
 
 // The slot that a call takes, from 0, or the refusal.
-#[derive(Drop)]
+#[derive(Clone, Copy)]
 pub enum SlotAnswer {
     Slot(usize),
     Refused(Refusal),
 }
 
 // What a call leaves: its answer, and the slots afterwards.
-#[derive(Drop)]
+#[derive(Clone, Copy)]
 pub struct Done {
     pub answer: SlotAnswer,
     pub slots: Slots,
@@ -44,7 +46,7 @@ pub struct Done {
 
 // What an offer answers: the slot that takes the block, with the number of slots looked at; turned away (25), with that number; or another
 // refusal.
-#[derive(Drop)]
+#[derive(Clone, Copy)]
 pub enum OfferAnswer {
     Slot { slot: usize, looked: usize },
     TurnedAway { looked: usize },
@@ -52,14 +54,14 @@ pub enum OfferAnswer {
 }
 
 // What an offer leaves: its answer, and the slots afterwards.
-#[derive(Drop)]
+#[derive(Clone, Copy)]
 pub struct Offered {
     pub answer: OfferAnswer,
     pub slots: Slots,
 }
 
 // What the search for an offer finds, and how many slots it looked at.
-#[derive(Drop)]
+#[derive(Clone, Copy)]
 struct Found {
     place: usize,
     looked: usize,

@@ -1,5 +1,7 @@
 // Calls on burst slots, one case for each rule of 02, tickets 9 and 10. tools/cases/bursts.py writes the cases in main, and the expected output from
 // a model of its own. A line is the call, its answer (s with a slot, r with a refusal, n with the slots that an offer looked at) and the slots: free ., sending S, held with a digit or *.
+#![tactic(auto)]
+
 use bursts::{OfferAnswer, Slot, SlotAnswer, SlotState, Slots};
 use refusal::Refusal;
 

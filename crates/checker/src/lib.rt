@@ -1,5 +1,7 @@
 // The check of planners' command lists (02, ticket 6). The workshop profile: nothing but commands and second marks; seconds never falling;
 // every write storing exactly what was sent; and after each second mark, and at the end, no processor enabled or N at most C.
+#![tactic(auto)]
+
 ghost use Rattle.std.specs.Prelude.{◌≡◌, true};
 ghost use Rattle.refusal.specs.Number.{number_of};
 ghost use Rattle.registers.specs.Access.{is_id};
@@ -12,21 +14,21 @@ use refusal::Refusal;
 use registers::Registers;
 
 // Accepted, or the refusal with the offset of the first record at fault, which is the list's length where its end is at fault.
-#[derive(Drop)]
+#[derive(Clone, Copy)]
 pub enum Judgement {
     Accepted,
     Refused(Refusal, usize),
 }
 
 // The judgement, and the registers that the records before the end or before the one at fault leave.
-#[derive(Drop)]
+#[derive(Clone, Copy)]
 pub struct Verdict {
     pub judgement: Judgement,
     pub registers: Registers,
 }
 
 // Whether a second mark keeps the rules, or its refusal.
-#[derive(Drop)]
+#[derive(Clone, Copy)]
 enum Allowed {
     Kept,
     Refused(Refusal),

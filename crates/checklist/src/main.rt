@@ -1,5 +1,7 @@
 // checklist: reads standard input as a command list and prints its verdict (02, ticket 6). Where the list is over 1,048,576 bytes or a read
 // fails, it prints nothing on standard output and says so on standard error; a failed write is named there too.
+#![tactic(auto)]
+
 use input::Input;
 use libc::{STDERR_FILENO, STDOUT_FILENO};
 use refusal::Written;

@@ -1,5 +1,7 @@
 // Checks the command lists of standard input, some for each sentence of 02, ticket 6, and prints the line of each verdict.
 // tools/cases/checklist.py writes the input and the expected output, the latter from a model of its own.
+#![tactic(auto)]
+
 ghost use Rattle.std.specs.Prelude.{◌+◌, ◌<◌, ◌≤◌, length};
 
 use checker::{Judgement, Verdict};

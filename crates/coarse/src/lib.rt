@@ -1,4 +1,6 @@
 // Totals of 36 or 64 bands from a list of 112 (02, ticket 8).
+#![tactic(auto)]
+
 ghost use Rattle.std.specs.Prelude.{◌≡◌, true, ◌≤◌, length, get_or};
 ghost use Rattle.lists.specs.Sums.{sum_to};
 ghost use Rattle.lists.specs.Tables.{overwrite};

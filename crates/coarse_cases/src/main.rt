@@ -2,6 +2,8 @@
 // spectra and the frequency tables of document 002. A case has 907 bytes: the target's bin setting, the number of totals handed in and the
 // length of the output lent, a byte each; then 113 totals, eight bytes each, high first. A line is the answer and the whole memory of the
 // output afterwards, with what lies past the length lent.
+#![tactic(auto)]
+
 ghost use Rattle.std.specs.Prelude.{◌≡◌, ◌+◌, ◌*◌, ◌≤◌, length};
 
 use libc::{STDIN_FILENO, STDOUT_FILENO};

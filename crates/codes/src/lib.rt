@@ -1,4 +1,6 @@
 // The band code (u32 to u8) and the sum code (u64 to u16): 01, "The two codes", with 02's ticket 5.
+#![tactic(auto)]
+
 ghost use Rattle.std.specs.Prelude.{◌≡◌};
 ghost use Rattle.codes.specs.Code.{exponent, band_code, sum_code};
 ghost use Rattle.codes.specs.Expanded.{band_value_outcome, band_expanded, sum_value_outcome, sum_expanded};
@@ -6,14 +8,14 @@ ghost use Rattle.codes.specs.Expanded.{band_value_outcome, band_expanded, sum_va
 use refusal::Refusal;
 
 // What a band code stands for, or refusal 7.
-#[derive(Drop)]
+#[derive(Clone, Copy)]
 pub enum BandValue {
     Value(u64),
     Refused(Refusal),
 }
 
 // What a sum code stands for, or refusal 8.
-#[derive(Drop)]
+#[derive(Clone, Copy)]
 pub enum SumValue {
     Value(u64),
     Refused(Refusal),

@@ -1,6 +1,8 @@
 // Runs histories of calls of the counting writer, some for each sentence of 02, ticket 12, and prints what each call leaves, and what the walk
 // finds in the bytes used. tools/cases/counts.py writes the input, whose operations it explains, and the expected output, the latter from a
 // model of its own.
+#![tactic(auto)]
+
 ghost use Rattle.std.specs.Prelude.{◌+◌, ◌<◌, ◌≤◌, length};
 
 use counting::Counted;
@@ -15,7 +17,7 @@ const HEADER: usize = 8;
 const MOST_SAMPLES: usize = 16;
 
 // The header of an operation.
-#[derive(Drop)]
+#[derive(Clone, Copy)]
 struct Operation {
     op: u8,
     a: u8,
@@ -24,7 +26,7 @@ struct Operation {
 }
 
 // What is kept between the calls beside the log.
-#[derive(Drop)]
+#[derive(Clone, Copy)]
 struct Kept {
     used: usize,
     tally: Tally,

@@ -1,5 +1,7 @@
 // The C interface of the bands and the two codes (include/dfb.h). Each function takes numbers and slices, a pointer and then a length in
 // C, and answers a number. A refusal is a base plus its number, which no other answer of the function equals, and changes nothing.
+#![tactic(auto)]
+
 ghost use Rattle.std.specs.Prelude.{◌≡◌, [], ◌∷◌};
 ghost use Rattle.codes.specs.Code.{band_code, sum_code};
 ghost use Rattle.codes.specs.Expanded.{band_expanded};

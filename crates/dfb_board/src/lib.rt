@@ -1,5 +1,7 @@
 // The C interface of the board (include/dfb.h): command, read and tick. Each function takes numbers and slices, a pointer and then a
 // length in C, and answers a number. A refusal is a base plus its number, which no other answer of the function equals, and changes nothing.
+#![tactic(auto)]
+
 ghost use Rattle.std.specs.Prelude.{◌≡◌, length};
 ghost use Rattle.registers.specs.Access.{answer_outcome};
 ghost use Rattle.model.specs.Board.{tick_reply};

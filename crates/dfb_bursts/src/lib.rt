@@ -1,4 +1,6 @@
 // The C interface of burst slots (02, tickets 9 and 10). Slots are two lists of as many entries.
+#![tactic(auto)]
+
 ghost use Rattle.std.specs.Prelude.{◌≡◌, ◌+◌, ◌*◌, ◌^◌, ◌≤◌, ◌<◌, length};
 ghost use Rattle.bursts.specs.Slots.{done_outcome, offered_outcome, slot_outcome, offer_answer_outcome};
 ghost use Rattle.dfb_bursts.specs.Bursts.{slot_from, status_of, criterion_of, are_slots, lists_refused, slots_of, statuses, criteria_of};

@@ -1,5 +1,7 @@
 // The C interface of the check of command lists (include/dfb.h). The function takes slices, a pointer and then a length in C, and answers a
 // number. A refusal is 2^63, 256 for each byte of its offset and its number, and changes nothing.
+#![tactic(auto)]
+
 ghost use Rattle.std.specs.Prelude.{◌≡◌};
 ghost use Rattle.lists.specs.Tables.{tabulate};
 ghost use Rattle.registers.specs.Access.{register};

@@ -1,4 +1,6 @@
 // The C interface of coarse totals (02, ticket 8).
+#![tactic(auto)]
+
 ghost use Rattle.std.specs.Prelude.{◌≡◌};
 ghost use Rattle.dfb_refusals.specs.Numbers.{above16, FilledNumber, filled_number};
 ghost use Rattle.coarse.specs.Coarse.{coarse_outcome};

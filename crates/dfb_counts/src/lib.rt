@@ -1,5 +1,7 @@
 // The C interface of counted logs (include/dfb.h). Each function takes numbers and slices, a pointer and then a length in C, and answers a
 // number. A refusal is 2^63 and its number, of dfb_count_sets also 256 for each byte of its offset, and changes nothing.
+#![tactic(auto)]
+
 ghost use Rattle.std.specs.Prelude.{◌≡◌, ◌&&◌, ◌≤◌, eqb, length};
 ghost use Rattle.lists.specs.Tables.{overwrite};
 ghost use Rattle.counting.specs.Writer.{command, mark, tick, set, report};

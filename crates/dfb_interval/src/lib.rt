@@ -1,4 +1,6 @@
 // The C interface of the interval of Burst 1 (02, ticket 11).
+#![tactic(auto)]
+
 ghost use Rattle.std.specs.Prelude.{◌≡◌};
 ghost use Rattle.dfb_interval.specs.Interval.{interval_call};
 

@@ -1,5 +1,7 @@
 // The C interface of waveform sets, the log and the listing (include/dfb.h). Each function takes numbers and slices, a pointer and then
 // a length in C, and answers a number. A refusal is a base plus its number, which no other answer of the function equals, and changes nothing.
+#![tactic(auto)]
+
 ghost use Rattle.std.specs.Prelude.{◌≡◌, ◌^◌, ◌<◌, false, [], ◌∷◌};
 ghost use Rattle.refusal.specs.Number.{number_of};
 ghost use Rattle.refusal.specs.Outcome.{written_outcome};

@@ -1,4 +1,6 @@
 // How the C interface (include/dfb.h) numbers its refusals: a base plus the number, which no other answer of that function equals.
+#![tactic(auto)]
+
 ghost use Rattle.std.specs.Prelude.{◌≡◌, ◌+◌, ◌%◌, ◌^◌};
 ghost use Rattle.refusal.specs.Number.{number_of};
 ghost use Rattle.dfb_refusals.specs.Numbers.{above16, above63, with_offset};

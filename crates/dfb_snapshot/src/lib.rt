@@ -1,4 +1,6 @@
 // The C interface of snapshots (02, ticket 1; include/dfb.h): a header is ten numbers.
+#![tactic(auto)]
+
 ghost use Rattle.std.specs.Prelude.{◌≡◌, true, ◌+◌, ◌≤◌, length};
 ghost use Rattle.lists.specs.Tables.{overwrite};
 ghost use Rattle.snapshot.specs.Calls.{header_found};

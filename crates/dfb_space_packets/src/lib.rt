@@ -1,4 +1,6 @@
 // The C interface of space packets (02, ticket 7; include/dfb.h).
+#![tactic(auto)]
+
 ghost use Rattle.std.specs.Prelude.{◌≡◌, ◌+◌, ◌≤◌, length};
 ghost use Rattle.lists.specs.Tables.{overwrite};
 ghost use Rattle.space_packets.specs.Calls.{header_found};

@@ -1,5 +1,7 @@
 // The C interface of summed spectra (include/dfb.h). The function takes numbers and slices, a pointer and then a length in C, and answers a
 // number. A refusal is 0x10000 and its number, and changes nothing.
+#![tactic(auto)]
+
 ghost use Rattle.std.specs.Prelude.{◌≡◌, ◌<◌, length};
 ghost use Rattle.refusal.specs.Outcome.{written_outcome};
 ghost use Rattle.dfb_refusals.specs.Numbers.{above16, outcome_number};

@@ -1,5 +1,7 @@
 // The C interface of the log walk (include/dfb.h): one item a call. The function takes slices, a pointer and then a length in C, and answers a
 // number. A refusal is 2^63, 256 for each byte of its offset and its number, and changes nothing.
+#![tactic(auto)]
+
 ghost use Rattle.std.specs.Prelude.{◌≡◌, [], ◌∷◌, ◌+◌, length};
 ghost use Rattle.walk.specs.Items.{bytes_of};
 ghost use Rattle.dfb_refusals.specs.Numbers.{above63, filled_number, values_put};

@@ -1,4 +1,6 @@
 // Samples in a packet: two bytes each, high byte first.
+#![tactic(auto)]
+
 ghost use Rattle.std.specs.Prelude.{◌≡◌, ◌+◌, ◌*◌, ◌/◌, ◌%◌, ◌≤◌, length, set};
 ghost use Rattle.lists.specs.Tables.{overwrite};
 ghost use Rattle.refusal.specs.Outcome.{filled};

@@ -1,10 +1,12 @@
 // Reading standard input, for the programs: until it ends or a buffer is full. What the system hands over stands in no statement.
+#![tactic(auto)]
+
 ghost use Rattle.input.specs.Input.{Within};
 
 use libc::STDIN_FILENO;
 
 // The bytes read up to the input's end or the buffer's, or a read that failed.
-#[derive(Drop)]
+#[derive(Clone, Copy)]
 pub enum Input {
     Bytes(usize),
     Failed,

@@ -1,4 +1,6 @@
 // The interval of Burst 1 blocks to send next (02, ticket 11; source document 004, section 3.3).
+#![tactic(auto)]
+
 ghost use Rattle.std.specs.Prelude.{◌≡◌, cond, ◌&&◌, ◌+◌, ◌-◌, ◌≤◌, ◌<◌, length, ltb};
 ghost use Rattle.interval.specs.Interval.{all_zero, start_of, joins, blocks, growing, try_older, try_newer, grown, interval_answer_outcome, interval_outcome};
 
@@ -8,20 +10,20 @@ use refusal::Refusal;
 pub const MOST_BLOCKS: usize = 16000;
 
 // The first and the last block, numbered from 0, the oldest first.
-#[derive(Drop)]
+#[derive(Clone, Copy)]
 pub struct Interval {
     pub first: usize,
     pub last: usize,
 }
 
-#[derive(Drop)]
+#[derive(Clone, Copy)]
 pub enum IntervalAnswer {
     Interval(Interval),
     Refused(Refusal),
 }
 
 // An interval, and which of its sides are open.
-#[derive(Drop)]
+#[derive(Clone, Copy)]
 struct Growing {
     first: usize,
     last: usize,

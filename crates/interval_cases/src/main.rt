@@ -1,5 +1,7 @@
 // Choices of an interval, one case for each rule of 02, ticket 11. tools/cases/interval.py writes the cases after this part, and the expected
 // output from a model of its own. A line is the first and the last place, or r with a refusal.
+#![tactic(auto)]
+
 ghost use Rattle.std.specs.Prelude.{◌<◌};
 
 use interval::IntervalAnswer;

@@ -1,4 +1,6 @@
 // Whether totals are within the most that so many spectra give (01, "Periods"). A row is one processor's 112 totals.
+#![tactic(auto)]
+
 ghost use Rattle.std.specs.Prelude.{◌≡◌, ◌*◌, ◌^◌, ◌-◌, ◌<◌, ◌≤◌, length, replicate};
 ghost use Rattle.registers.specs.Store.{band_count};
 ghost use Rattle.settings.specs.Settings.{bands_of};
@@ -11,7 +13,7 @@ use refusal::Refusal;
 use registers::Registers;
 
 // Whether totals are at most those of so many spectra, or the refusal.
-#[derive(Drop)]
+#[derive(Clone, Copy)]
 pub enum TotalsLimits {
     Within,
     Over,

@@ -4,10 +4,12 @@
 // (8, high first); and what is handed in and the buffer (32 each), or a log (64). A sample is two bytes: it plus 32,768, high byte first.
 // A line is the call, its answer, and the whole memory of the buffer afterwards, with what lies past the length lent; of a log, each answer
 // and the reader's place after it.
+#![tactic(auto)]
+
 ghost use Rattle.std.specs.Prelude.{◌≡◌, ◌+◌, ◌*◌, ◌≤◌, length};
 
-use libc::{STDIN_FILENO, STDOUT_FILENO};
 use board_log::{Command, Read, Record, Word};
+use libc::{STDIN_FILENO, STDOUT_FILENO};
 use refusal::{Refusal, Written};
 
 // Prints a line that the expected output does not have, unless ok.

@@ -1,6 +1,8 @@
 // The rules of the board as definitions, its reference model, demand 3 (01, "Periods" and "Demand 3 and its plain book"), and the numbers of
 // reports (02, ticket 13).
 // The only code is the state's reset and read: crate `board` has the functions that meet the other rules.
+#![tactic(auto)]
+
 ghost use Rattle.std.specs.Prelude.{◌≡◌};
 ghost use Rattle.registers.specs.Access.{answer_outcome, register_read};
 ghost use Rattle.model.specs.Board.{reset_state};
@@ -9,7 +11,7 @@ use refusal::Refusal;
 use registers::{Answer, Registers};
 
 // The registers, the phase in ticks since the period began, and the reports since the last accepted command, counted up to 65,535.
-#[derive(Drop)]
+#[derive(Clone, Copy)]
 pub struct State {
     pub registers: Registers,
     pub phase: u16,
@@ -17,14 +19,14 @@ pub struct State {
 }
 
 // The answer of a command, which is the value stored, and the state after it.
-#[derive(Drop)]
+#[derive(Clone, Copy)]
 pub struct Commanded {
     pub answer: Answer,
     pub state: State,
 }
 
 // The answer of a tick in 01's words; a report has its word count. The report's number is `reports` of the state after it.
-#[derive(Drop)]
+#[derive(Clone, Copy)]
 pub enum TickAnswer {
     Idle,
     Collected,
@@ -34,7 +36,7 @@ pub enum TickAnswer {
 }
 
 // The answer of a tick, and the state after it.
-#[derive(Drop)]
+#[derive(Clone, Copy)]
 pub struct Ticked {
     pub answer: TickAnswer,
     pub state: State,

@@ -1,4 +1,5 @@
 // The seven spectral registers 0x30 to 0x36 (01, "Registers 0x30 to 0x36"). Register n, counted from 0, belongs to processor n + 1.
+#![tactic(auto)]
 ghost use Rattle.std.specs.Prelude.{◌≡◌, ◌&&◌, ◌≤◌, leb};
 ghost use Rattle.registers.specs.Store.{limited, low_stored, high_stored, stored_at, can_store};
 ghost use Rattle.registers.specs.Access.{fields_of, at_reset, is_id, registers_sound, outcome_of, write_outcome};
@@ -8,13 +9,13 @@ use refusal::Refusal;
 // The number of bands of the bin settings 0, 1 and 2.
 pub const BAND_COUNTS: [u8; 3] = [36, 64, 112];
 
-#[derive(Drop)]
+#[derive(Clone, Copy)]
 pub struct Registers {
     pub value: [u16; Registers::COUNT],
 }
 
 // The fields of 16 bits of information.
-#[derive(Drop)]
+#[derive(Clone, Copy)]
 pub struct Fields {
     pub source: u16,
     pub enable: u16,
@@ -24,14 +25,14 @@ pub struct Fields {
 }
 
 // The value of a register, as it is read or as a command stored it; or the refusal.
-#[derive(Drop)]
+#[derive(Clone, Copy)]
 pub enum Answer {
     Value(u16),
     Refused(Refusal),
 }
 
 // What a write leaves: its answer, and the registers afterwards.
-#[derive(Drop)]
+#[derive(Clone, Copy)]
 pub struct Write {
     pub answer: Answer,
     pub registers: Registers,

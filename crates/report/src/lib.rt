@@ -1,4 +1,6 @@
 // The words of a report (01, "Words and sets", SPEC). A row is one processor's 112 totals; N is 2 to the power of the exponent passed.
+#![tactic(auto)]
+
 ghost use Rattle.std.specs.Prelude.{◌≡◌, [], ◌∷◌, ◌*◌, ◌/◌, ◌^◌, ◌<◌, ◌≤◌, length};
 ghost use Rattle.lists.specs.Tables.{overwrite};
 ghost use Rattle.bands.specs.Band.{size_exponent, width_exponent, band_width};
@@ -14,7 +16,7 @@ use refusal::Refusal;
 use registers::Registers;
 
 // The number of words of a report, or the refusal.
-#[derive(Drop)]
+#[derive(Clone, Copy)]
 pub enum WordCount {
     Words(u16),
     Refused(Refusal),

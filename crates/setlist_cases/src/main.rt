@@ -1,5 +1,7 @@
 // Lists the logs of standard input, some for each rule of 01 on the walk and the text, and then logs of ticks. tools/cases/setlist.py writes
 // the input and the expected output, the latter from a model of its own.
+#![tactic(auto)]
+
 ghost use Rattle.std.specs.Prelude.{◌≡◌, ◌+◌, ◌<◌, ◌≤◌, length};
 
 use libc::{STDIN_FILENO, STDOUT_FILENO};

@@ -1,5 +1,7 @@
 // What the spectral registers set (01, "Registers 0x30 to 0x36", "Periods" and "Words and sets"). Bins, NAVG and NCAD are those that 0x30
 // stores; a field that no write can store counts as what a write of it would store.
+#![tactic(auto)]
+
 ghost use Rattle.std.specs.Prelude.{◌≡◌};
 ghost use Rattle.registers.specs.Access.{fields_of};
 ghost use Rattle.settings.specs.Settings.{first_stored, setting_of, bands_of, averaged_spectra, period_ticks, enabled_of, enabled_count, running_of};

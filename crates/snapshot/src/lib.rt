@@ -1,4 +1,6 @@
 // One packet of a snapshot of the LFR (02, ticket 1; 000, TM_LF_RSWF): reader and writer.
+#![tactic(auto)]
+
 ghost use Rattle.std.specs.Prelude.{◌≡◌, ◌+◌, ◌≤◌, length};
 ghost use Rattle.lists.specs.Tables.{overwrite};
 ghost use Rattle.refusal.specs.Outcome.{filled};
@@ -20,7 +22,7 @@ const AUXILIARY_LENGTH: u8 = 8;
 const MOST_PACKETS: u16 = 3072;
 
 // What a packet says of itself.
-#[derive(Drop)]
+#[derive(Clone, Copy)]
 pub struct Header {
     // the coarse difference and the fine time
     pub coarse: u16,
@@ -40,14 +42,14 @@ pub struct Header {
 }
 
 // The header of a packet, or the refusal.
-#[derive(Drop)]
+#[derive(Clone, Copy)]
 pub enum HeaderRead {
     Header(Header),
     Refused(Refusal),
 }
 
 // The header of a packet and the number of samples written, or the refusal.
-#[derive(Drop)]
+#[derive(Clone, Copy)]
 pub enum PacketRead {
     Packet(Header, usize),
     Refused(Refusal),

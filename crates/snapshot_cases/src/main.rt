@@ -1,6 +1,8 @@
 // Reads and writes packets of snapshots, by the cases of standard input. tools/cases/snapshots.py writes the input, whose cases it explains, and
 // the expected output, the latter by hand and from a model of its own. A line is what each call answers, and the memory of the output
 // afterwards, with what lies past the length lent.
+#![tactic(auto)]
+
 ghost use Rattle.std.specs.Prelude.{◌+◌, ◌≤◌, length};
 
 use libc::{STDIN_FILENO, STDOUT_FILENO};

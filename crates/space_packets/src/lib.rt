@@ -1,4 +1,6 @@
 // Space packets of waveform sets (02, ticket 7; CCSDS 133.0-B): export and import.
+#![tactic(auto)]
+
 ghost use Rattle.std.specs.Prelude.{◌≡◌, cond, ◌+◌, ◌*◌, ◌≤◌, ◌<◌, leb, ltb, length};
 ghost use Rattle.lists.specs.Tables.{overwrite};
 ghost use Rattle.fields.specs.BitFields.{FitWidths};
@@ -20,7 +22,7 @@ const LAST_COUNT: u16 = 16383;
 const UNSEGMENTED: u8 = 3;
 
 // The fields of a primary header.
-#[derive(Drop)]
+#[derive(Clone, Copy)]
 pub struct Primary {
     // the packet version number, the packet type and the secondary header flag
     pub version: u8,
@@ -35,28 +37,28 @@ pub struct Primary {
 }
 
 // What a packet says of itself.
-#[derive(Drop)]
+#[derive(Clone, Copy)]
 pub struct PacketHeader {
     pub apid: u16,
     pub count: u16,
 }
 
 // The header of a packet, or the refusal.
-#[derive(Drop)]
+#[derive(Clone, Copy)]
 pub enum HeaderRead {
     Header(PacketHeader),
     Refused(Refusal),
 }
 
 // The header of a packet and the number of samples written, or the refusal.
-#[derive(Drop)]
+#[derive(Clone, Copy)]
 pub enum Imported {
     Packet(PacketHeader, usize),
     Refused(Refusal),
 }
 
 // The number of bytes written and the next count, or the refusal.
-#[derive(Drop)]
+#[derive(Clone, Copy)]
 pub enum Exported {
     Packets(usize, u16),
     Refused(Refusal),

@@ -1,6 +1,8 @@
 // Exports and imports space packets, by the cases of standard input. tools/cases/space_packets.py writes the input, whose cases it explains, and
 // the expected output, the latter by hand and from a model of its own. A line is what the calls answer and, of the memory of the output with what
 // lies past the length lent, a part and a sum over all.
+#![tactic(auto)]
+
 ghost use Rattle.std.specs.Prelude.{◌+◌, ◌≤◌, length};
 
 use libc::{STDIN_FILENO, STDOUT_FILENO};

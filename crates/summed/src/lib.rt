@@ -1,4 +1,6 @@
 // Summed spectra in sixteen bits (02, ticket 4; 000, FSUM), one component per call. A run is the 1,024 totals of one mask.
+#![tactic(auto)]
+
 ghost use Rattle.std.specs.Prelude.{◌≡◌, ◌+◌, ◌*◌, ◌^◌, ◌<◌, ◌≤◌, ◌++◌, length, take, drop};
 ghost use Rattle.lists.specs.Tables.{overwrite};
 ghost use Rattle.summed.specs.Component.{square, has_component};
@@ -11,7 +13,7 @@ use refusal::{Refusal, Written};
 use std::num::wrapping_sub_u64;
 
 // What is kept between calls, beside the totals: the next component, from 0, and the two masks.
-#[derive(Drop)]
+#[derive(Clone, Copy)]
 pub struct SumState {
     pub next: u8,
     pub first: u8,
@@ -19,7 +21,7 @@ pub struct SumState {
 }
 
 // The number of bytes written or the refusal, and the state after the call.
-#[derive(Drop)]
+#[derive(Clone, Copy)]
 pub struct Summed {
     pub answer: Written,
     pub state: SumState,

@@ -1,6 +1,8 @@
 // Runs histories of calls that sum components, by the operations of standard input. tools/cases/sums.py writes the input, whose operations it
 // explains, and the expected output, the latter by hand and from a model of its own. A line is what a call answers and what it leaves: the
 // state, and of the whole memory of totals and output, with what lies past the lengths lent, one bin and a sum over all.
+#![tactic(auto)]
+
 ghost use Rattle.std.specs.Prelude.{◌+◌, ◌<◌, ◌≤◌, length};
 
 use libc::{STDIN_FILENO, STDOUT_FILENO};

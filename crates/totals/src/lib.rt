@@ -1,4 +1,6 @@
 // The totals of a period (01, "Periods"): adding a tick's powers. A row is one processor's 112 totals or 1,024 powers.
+#![tactic(auto)]
+
 ghost use Rattle.std.specs.Prelude.{◌≡◌, ◌≤◌, length, if◌then◌else◌, slice_index};
 ghost use Rattle.lists.specs.Sums.{sum_to};
 ghost use Rattle.lists.specs.Tables.{grid};
@@ -11,7 +13,7 @@ use registers::Registers;
 use std::num::wrapping_add_u64;
 
 // The powers are added, or the refusal.
-#[derive(Drop)]
+#[derive(Clone, Copy)]
 pub enum Added {
     Done,
     Refused(Refusal),

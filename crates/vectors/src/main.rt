@@ -1,6 +1,8 @@
 // Prints what codes and bands answer for outside vectors: numbers of 01 and of ticket 5, all 256 band codes, the codes of values around
 // each quarter of a step of the mantissa, the band of every FFT bin and every band of the frequency tables. tools/cases/vectors.py writes
 // the expected output, from 01, ticket 5 and document 002.
+#![tactic(auto)]
+
 use bands::{BandDescription, BandIndex, Cadence};
 use codes::{BandValue, SumValue};
 use refusal::Refusal;

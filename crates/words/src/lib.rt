@@ -1,4 +1,6 @@
 // Board words (01, "Words and sets"): an APID and 16 bits; samples; and the words of a set.
+#![tactic(auto)]
+
 ghost use Rattle.std.specs.Prelude.{◌≡◌};
 ghost use Rattle.words.specs.Sample.{bits_of, sample_of};
 ghost use Rattle.words.specs.Words.{set_words_outcome, set_size, is_apid, pair_of};
@@ -28,7 +30,7 @@ pub fn sample_of(bits: u16) -> i16
 }
 
 // The number of words of a set, or the refusal.
-#[derive(Drop)]
+#[derive(Clone, Copy)]
 pub enum SetWords {
     Count(usize),
     Refused(Refusal),

@@ -15,43 +15,43 @@ use Rattle.registers.proofs.high_stored.Tie as tie
 at_most : (limit default field stored : ℕ) → default ≤ limit → stored ≡ limited limit default field → (stored ≡ limited limit default field) × (stored ≤ limit)
 at_most limit default field stored h e = (e, subst (λ (x : ℕ). x ≤ limit) (sym e) (limited-le limit default field h))
 
-module _ (c : tie.After-limited-field3) where
+module _ (c : tie.After-limited_field-bins) where
   v : ℕ
   v = c.before.before.before.before.args.information
 
-  ncad-is : (c.before.before.limited-field.result ≡ limited 0xA 6 (ncad_of v)) × (c.before.before.limited-field.result ≤ 0xA)
+  ncad-is : (c.before.before.limited_field-ncad.result ≡ limited 0xA 6 (ncad_of v)) × (c.before.before.limited_field-ncad.result ≤ 0xA)
   unfolding v
-  ncad-is = at_most 0xA 6 (ncad_of v) _ (lit≤ tt) (c.before.before.limited-field.ensures ∙ ap (λ (f : Fields). limited 0xA 6 f.ncad) c.before.before.before.of.ensures)
+  ncad-is = at_most 0xA 6 (ncad_of v) _ (lit≤ tt) (c.before.before.limited_field-ncad.ensures ∙ ap (λ (f : Fields). limited 0xA 6 f.ncad) c.before.before.before.of-fields.ensures)
 
-  navg-is : (c.before.limited-field2.result ≡ limited 0xA 3 (navg_of v)) × (c.before.limited-field2.result ≤ 0xA)
+  navg-is : (c.before.limited_field-navg.result ≡ limited 0xA 3 (navg_of v)) × (c.before.limited_field-navg.result ≤ 0xA)
   unfolding v
-  navg-is = at_most 0xA 3 (navg_of v) _ (lit≤ tt) (c.before.limited-field2.ensures ∙ ap (λ (f : Fields). limited 0xA 3 f.navg) c.before.before.before.of.ensures)
+  navg-is = at_most 0xA 3 (navg_of v) _ (lit≤ tt) (c.before.limited_field-navg.ensures ∙ ap (λ (f : Fields). limited 0xA 3 f.navg) c.before.before.before.of-fields.ensures)
 
-  bins-is : (c.limited-field3.result ≡ limited 2 1 (bins_of v)) × (c.limited-field3.result ≤ 2)
+  bins-is : (c.limited_field-bins.result ≡ limited 2 1 (bins_of v)) × (c.limited_field-bins.result ≤ 2)
   unfolding v
-  bins-is = at_most 2 1 (bins_of v) _ (lit≤ tt) (c.limited-field3.ensures ∙ ap (λ (f : Fields). limited 2 1 f.bins) c.before.before.before.of.ensures)
+  bins-is = at_most 2 1 (bins_of v) _ (lit≤ tt) (c.limited_field-bins.ensures ∙ ap (λ (f : Fields). limited 2 1 f.bins) c.before.before.before.of-fields.ensures)
 
-mul-result : tie.Need-overflow-mul-result
+mul-result : tie.Need-overflow_mul-result
 mul-result c = omega (arith, ncad-is c)
 
-mul-result-2 : tie.Need-overflow-mul-result-2
+mul-result-2 : tie.Need-overflow_mul-result-2
 mul-result-2 c = omega (arith, navg-is c)
 
-add-result : tie.Need-overflow-add-result
+add-result : tie.Need-overflow_add-result
 add-result c = omega (arith, ncad-is c, navg-is c)
 
-mul-result-3 : tie.Need-overflow-mul-result-3
+mul-result-3 : tie.Need-overflow_mul-result-3
 mul-result-3 c = omega (arith, bins-is c)
 
-add-result-2 : tie.Need-overflow-add-result-2
+add-result-2 : tie.Need-overflow_add-result-2
 add-result-2 c = omega (arith, ncad-is c, navg-is c, bins-is c)
 
 returns : tie.Need-returns
 unfolding high_stored v
 returns c = omega (arith, (ncad-is c).0, (navg-is c).0, (bins-is c).0)
 
-pub high-stored-spec : {M : Type 1} → statement M
-high-stored-spec =
+pub high_stored_spec : {M : Type 1} → statement M
+high_stored_spec =
     tie.close
     (tie.spec
     (λ c κs. search rules)

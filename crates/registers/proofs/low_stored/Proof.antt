@@ -11,24 +11,24 @@ use Rattle.registers.proofs.low_stored.Statement.{statement}
 use Rattle.registers.proofs.low_stored.Tie as tie
 
 -- the enable bit, and the source as stored
-enable-is : (c : tie.After-of) → c.of.result.enable ≡ enable_of c.before.args.information
-enable-is c = ap (λ (f : Fields). f.enable) c.of.ensures
+enable-is : (c : tie.After-of-fields) → c.of-fields.result.enable ≡ enable_of c.before.args.information
+enable-is c = ap (λ (f : Fields). f.enable) c.of-fields.ensures
 
-source_is : (c : tie.After-limited-field) → c.limited-field.result ≡ limited 0x16 c.before.before.before.args.default (source_of c.before.before.before.args.information)
-source_is c = c.limited-field.ensures ∙ ap (λ (f : Fields). limited 0x16 c.before.before.before.args.default f.source) c.before.before.of.ensures
+source_is : (c : tie.After-limited_field) → c.limited_field.result ≡ limited 0x16 c.before.before.before.args.default (source_of c.before.before.before.args.information)
+source_is c = c.limited_field.ensures ∙ ap (λ (f : Fields). limited 0x16 c.before.before.before.args.default f.source) c.before.before.of-fields.ensures
 
-source-le : (c : tie.After-limited-field) → c.limited-field.result ≤ 0x16
+source-le : (c : tie.After-limited_field) → c.limited_field.result ≤ 0x16
 source-le c = omega (arith, source_is c, limited-le 0x16 c.before.before.before.args.default (source_of c.before.before.before.args.information) c.before.before.before.requires)
 
-mul-result : tie.Need-overflow-mul-result
+mul-result : tie.Need-overflow_mul-result
 mul-result c = omega (arith, enable-is c.before)
 
-add-result : tie.Need-overflow-add-result
+add-result : tie.Need-overflow_add-result
 add-result c = omega (arith, enable-is c.before.before, source-le c)
 
 returns : tie.Need-returns
 unfolding low_stored
 returns c = omega (arith, enable-is c.before.before, source_is c)
 
-pub low-stored-spec : {M : Type 1} → statement M
-low-stored-spec = tie.close (tie.spec (λ c κs. search rules) mul-result (λ c κs. search rules) add-result returns)
+pub low_stored_spec : {M : Type 1} → statement M
+low_stored_spec = tie.close (tie.spec (λ c κs. search rules) mul-result (λ c κs. search rules) add-result returns)

@@ -11,28 +11,28 @@ use borrow.Author.Rules.{rules}
 use Rattle.registers.proofs.Registers.is_sound.Statement.{statement}
 use Rattle.registers.proofs.Registers.is_sound.Tie as tie
 
-abbrev invariant-loop : tie.invariant-loop
+abbrev invariant-loop : tie.invariant-loop-n
 invariant-loop self n₀ n = (n ≤ 7) × (all_to n (storable self) ≡ true)
 
-abbrev decreases-loop : tie.decreases-loop
+abbrev decreases-loop : tie.decreases-loop-n
 decreases-loop self n₀ n = 7 - n
 
-loop-holds : tie.Need-loop-init invariant-loop decreases-loop
+loop-holds : tie.Need-loop-n-init invariant-loop decreases-loop
 loop-holds c = (search rules, all_to-none _)
 
-returns : tie.Need-returns invariant-loop decreases-loop
+returns : tie.Need-returns-then-not-can_store invariant-loop decreases-loop
 unfolding registers_sound
-returns c = sym (all_to-false _ 7 c.before.before.before.before.loop.n (search rules) (sym c.before.can_store.ensures ∙ not-true _ c.if1.true))
+returns c = sym (all_to-false _ 7 c.before.before.before.before.loop-n.n (search rules) (sym c.before.can_store.ensures ∙ not-true _ c.if-not-can_store.true-raw))
 
-loop-again : tie.Need-loop-preserved invariant-loop decreases-loop
-loop-again c = (search rules, all_to-more _ _ c.before.before.before.before.loop.invariant.1 (sym c.before.can_store.ensures ∙ not-false _ c.if1.false))
+loop-again : tie.Need-loop-n-preserved invariant-loop decreases-loop
+loop-again c = (search rules, all_to-more _ _ c.before.before.before.before.loop-n.invariant.1 (sym c.before.can_store.ensures ∙ not-false _ c.if-not-can_store.false-raw))
 
-returns-2 : tie.Need-returns-2 invariant-loop decreases-loop
+returns-2 : tie.Need-returns invariant-loop decreases-loop
 unfolding registers_sound
-returns-2 c = let e : c.before.loop.n ≡ 7 = omega arith in rw e at (sym c.before.loop.invariant.1)
+returns-2 c = let e : c.before.loop-n.n ≡ 7 = omega arith in rw e at (sym c.before.loop-n.invariant.1)
 
-pub is-sound-spec : {M : Type 1} → statement M
-is-sound-spec =
+pub is_sound_spec : {M : Type 1} → statement M
+is_sound_spec =
     tie.close
     (tie.spec
     invariant-loop

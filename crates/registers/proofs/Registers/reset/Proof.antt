@@ -6,5 +6,5 @@ use Rattle.registers.proofs.Registers.reset.Tie as tie
 returns : tie.Need-returns
 returns c = refl
 
-pub reset-spec : {M : Type 1} → statement M
-reset-spec = tie.close (tie.spec returns)
+pub reset_spec : {M : Type 1} → statement M
+reset_spec = tie.close (tie.spec returns)

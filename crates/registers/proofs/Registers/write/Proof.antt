@@ -9,33 +9,33 @@ use borrow.Author.Rules.{rules}
 use Rattle.registers.proofs.Registers.write.Statement.{statement}
 use Rattle.registers.proofs.Registers.write.Tie as tie
 
-returns : tie.Need-returns
+returns : tie.Need-returns-then-not-is_sound
 unfolding write_outcome
 returns c =
-    let unsound : registers_sound c.before.before.args.self ≡ false = sym c.before.is-sound.ensures ∙ not-true _ c.if1.true in
+    let unsound : registers_sound c.before.before.args.self ≡ false = sym c.before.is_sound.ensures ∙ not-true _ c.if-not-is_sound.true-raw in
     simp unsound
 
-returns-2 : tie.Need-returns-2
+returns-2 : tie.Need-returns-then-not-is_id
 unfolding write_outcome
 returns-2 c =
     let a = c.before.before.before.before.args in
-    let ok : registers_sound a.self ≡ true = sym c.before.before.before.is-sound.ensures ∙ not-false _ c.before.before.if1.false in
-    let unknown : is_id a.id ≡ false = sym c.before.is-id.ensures ∙ not-true _ c.if2.true in
+    let ok : registers_sound a.self ≡ true = sym c.before.before.before.is_sound.ensures ∙ not-false _ c.before.before.if-not-is_sound.false-raw in
+    let unknown : is_id a.id ≡ false = sym c.before.is_id.ensures ∙ not-true _ c.if-not-is_id.true-raw in
     simp (ok, unknown)
 
-sub-n : tie.Need-overflow-sub-n
-sub-n c = omega (arith, id_range c.before.before.before.before.args.id (sym c.before.is-id.ensures ∙ not-false _ c.if2.false))
+sub-n : tie.Need-overflow_sub-n
+sub-n c = omega (arith, id_range c.before.before.before.before.args.id (sym c.before.is_id.ensures ∙ not-false _ c.if-not-is_id.false-raw))
 
-element-write-next : tie.Need-element-write-next
-element-write-next c = omega (arith, id_range c.before.before.before.before.before.args.id (sym c.before.before.is-id.ensures ∙ not-false _ c.before.if2.false))
+element-write-next : tie.Need-bounds-next-n
+element-write-next c = omega (arith, id_range c.before.before.before.before.before.args.id (sym c.before.before.is_id.ensures ∙ not-false _ c.before.if-not-is_id.false-raw))
 
-returns-3 : tie.Need-returns-3
+returns-3 : tie.Need-returns
 unfolding write_outcome
 returns-3 c =
     let a = c.before.before.before.before.before.args in
-    let ok : registers_sound a.self ≡ true = sym c.before.before.before.before.is-sound.ensures ∙ not-false _ c.before.before.before.if1.false in
-    let known : is_id a.id ≡ true = sym c.before.before.is-id.ensures ∙ not-false _ c.before.if2.false in
-    simp (ok, known, c.stored_at.ensures)
+    let ok : registers_sound a.self ≡ true = sym c.before.before.before.before.is_sound.ensures ∙ not-false _ c.before.before.before.if-not-is_sound.false-raw in
+    let known : is_id a.id ≡ true = sym c.before.before.is_id.ensures ∙ not-false _ c.before.if-not-is_id.false-raw in
+    simp (ok, known, c.stored_at-stored.ensures)
 
 pub write_spec : {M : Type 1} → statement M
 write_spec =
