@@ -23,17 +23,17 @@ returns : tie.Need-returns
 unfolding sum_code
 returns c = (done c).is
 
-sub-e : tie.Need-overflow-sub-e
+sub-e : tie.Need-overflow_sub-e
 sub-e c = omega (arith, by-zeros c)
 
-add-result : tie.Need-overflow-add-result
+add-result : tie.Need-overflow_add-result
 add-result c = omega (arith, done c)
 
-cast-result-2 : tie.Need-overflow-cast-result-2
+cast-result-2 : tie.Need-overflow_cast-result-2
 cast-result-2 c = omega (arith, done c)
 
-pub compress-sum-spec : {M : Type 1} → statement M
-compress-sum-spec =
+pub compress_sum_spec : {M : Type 1} → statement M
+compress_sum_spec =
     tie.close
     (tie.spec
     sub-e

@@ -11,17 +11,17 @@ use Rattle.codes.proofs.exponent.Tie as tie
 by-zeros : (c : tie.Start) → exponent c.args.width c.args.v ≡ 64 - count_leading_zeros 64 c.args.v - c.args.width
 by-zeros c = exponent-leading c.args.width 64 c.args.v c.ranges.v.fits
 
-sub-digits : tie.Need-overflow-sub-digits
+sub-digits : tie.Need-overflow_sub-digits
 sub-digits c = omega (arith, leading_le 64 c.args.v)
 
-sub-result : tie.Need-overflow-sub-result
+sub-result : tie.Need-overflow_sub-result
 sub-result c = omega arith
 
-returns : tie.Need-returns
+returns : tie.Need-returns-then-digits-width
 returns c = omega (arith, by-zeros c.before)
 
-returns-2 : tie.Need-returns-2
+returns-2 : tie.Need-returns-else-digits-width
 returns-2 c = omega (arith, by-zeros c.before)
 
-pub exponent-spec : {M : Type 1} → statement M
-exponent-spec = tie.close (tie.spec sub-digits sub-result returns returns-2)
+pub exponent_spec : {M : Type 1} → statement M
+exponent_spec = tie.close (tie.spec sub-digits sub-result returns returns-2)

@@ -17,19 +17,19 @@ at_most limit default field stored h e = (e, subst (λ (x : ℕ). x ≤ limit) (
 
 module _ (c : tie.After-limited_field-bins) where
   v : ℕ
-  v = c.before.before.before.before.args.information
+  v = c.args.information
 
-  ncad-is : (c.before.before.limited_field-ncad.result ≡ limited 0xA 6 (ncad_of v)) × (c.before.before.limited_field-ncad.result ≤ 0xA)
+  ncad-is : (c.limited_field-ncad.result ≡ limited 0xA 6 (ncad_of v)) × (c.limited_field-ncad.result ≤ 0xA)
   unfolding v
-  ncad-is = at_most 0xA 6 (ncad_of v) _ (lit≤ tt) (c.before.before.limited_field-ncad.ensures ∙ ap (λ (f : Fields). limited 0xA 6 f.ncad) c.before.before.before.of-fields.ensures)
+  ncad-is = at_most 0xA 6 (ncad_of v) _ (lit≤ tt) (c.limited_field-ncad.ensures ∙ ap (λ (f : Fields). limited 0xA 6 f.ncad) c.of-fields.ensures)
 
-  navg-is : (c.before.limited_field-navg.result ≡ limited 0xA 3 (navg_of v)) × (c.before.limited_field-navg.result ≤ 0xA)
+  navg-is : (c.limited_field-navg.result ≡ limited 0xA 3 (navg_of v)) × (c.limited_field-navg.result ≤ 0xA)
   unfolding v
-  navg-is = at_most 0xA 3 (navg_of v) _ (lit≤ tt) (c.before.limited_field-navg.ensures ∙ ap (λ (f : Fields). limited 0xA 3 f.navg) c.before.before.before.of-fields.ensures)
+  navg-is = at_most 0xA 3 (navg_of v) _ (lit≤ tt) (c.limited_field-navg.ensures ∙ ap (λ (f : Fields). limited 0xA 3 f.navg) c.of-fields.ensures)
 
   bins-is : (c.limited_field-bins.result ≡ limited 2 1 (bins_of v)) × (c.limited_field-bins.result ≤ 2)
   unfolding v
-  bins-is = at_most 2 1 (bins_of v) _ (lit≤ tt) (c.limited_field-bins.ensures ∙ ap (λ (f : Fields). limited 2 1 f.bins) c.before.before.before.of-fields.ensures)
+  bins-is = at_most 2 1 (bins_of v) _ (lit≤ tt) (c.limited_field-bins.ensures ∙ ap (λ (f : Fields). limited 2 1 f.bins) c.of-fields.ensures)
 
 mul-result : tie.Need-overflow_mul-result
 mul-result c = omega (arith, ncad-is c)

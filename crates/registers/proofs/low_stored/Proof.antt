@@ -11,14 +11,14 @@ use Rattle.registers.proofs.low_stored.Statement.{statement}
 use Rattle.registers.proofs.low_stored.Tie as tie
 
 -- the enable bit, and the source as stored
-enable-is : (c : tie.After-of-fields) → c.of-fields.result.enable ≡ enable_of c.before.args.information
+enable-is : (c : tie.After-of-fields) → c.of-fields.result.enable ≡ enable_of c.args.information
 enable-is c = ap (λ (f : Fields). f.enable) c.of-fields.ensures
 
-source_is : (c : tie.After-limited_field) → c.limited_field.result ≡ limited 0x16 c.before.before.before.args.default (source_of c.before.before.before.args.information)
-source_is c = c.limited_field.ensures ∙ ap (λ (f : Fields). limited 0x16 c.before.before.before.args.default f.source) c.before.before.of-fields.ensures
+source_is : (c : tie.After-limited_field) → c.limited_field.result ≡ limited 0x16 c.args.default (source_of c.args.information)
+source_is c = c.limited_field.ensures ∙ ap (λ (f : Fields). limited 0x16 c.args.default f.source) c.of-fields.ensures
 
 source-le : (c : tie.After-limited_field) → c.limited_field.result ≤ 0x16
-source-le c = omega (arith, source_is c, limited-le 0x16 c.before.before.before.args.default (source_of c.before.before.before.args.information) c.before.before.before.requires)
+source-le c = omega (arith, source_is c, limited-le 0x16 c.args.default (source_of c.args.information) c.requires)
 
 mul-result : tie.Need-overflow_mul-result
 mul-result c = omega (arith, enable-is c.before)

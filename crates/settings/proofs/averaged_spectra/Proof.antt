@@ -12,15 +12,15 @@ use Rattle.settings.specs.Settings.{first_stored, averaged_spectra}
 use Rattle.settings.proofs.averaged_spectra.Statement.{statement}
 use Rattle.settings.proofs.averaged_spectra.Tie as tie
 
-navg-is : (c : tie.After-first-fields) → c.first-fields.result.navg ≡ navg_of (first_stored c.before.args.registers)
-navg-is c = ap (λ (f : Fields). f.navg) c.first-fields.ensures
+navg-is : (c : tie.After-first_fields-fields) → c.first_fields-fields.result.navg ≡ navg_of (first_stored c.args.registers)
+navg-is c = ap (λ (f : Fields). f.navg) c.first_fields-fields.ensures
 
-shl-result : tie.Need-overflow-shl-result
-shl-result c = omega (arith, navg-is c.before, (first-stored (register c.before.before.args.registers 0)).navg)
+shl-result : tie.Need-overflow_shl-result
+shl-result c = omega (arith, navg-is c.before, (first-stored (register c.args.registers 0)).navg)
 
 returns : tie.Need-returns
 unfolding averaged_spectra
-returns c = one_shl c.before.first-fields.result.navg 16 (shl-result c) ∙ ap (λ (x : ℕ). 2 ^ x) (navg-is c.before)
+returns c = one_shl c.first_fields-fields.result.navg 16 (shl-result c) ∙ ap (λ (x : ℕ). 2 ^ x) (navg-is c.before)
 
-pub averaged-spectra-spec : {M : Type 1} → statement M
-averaged-spectra-spec = tie.close (tie.spec (λ c κs. search rules) shl-result returns)
+pub averaged_spectra_spec : {M : Type 1} → statement M
+averaged_spectra_spec = tie.close (tie.spec (λ c κs. search rules) shl-result returns)

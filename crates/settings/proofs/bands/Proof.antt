@@ -12,26 +12,26 @@ use Rattle.settings.proofs.Settings.{setting-le, bands-le}
 use Rattle.settings.proofs.bands.Statement.{statement}
 use Rattle.settings.proofs.bands.Tie as tie
 
-at_most : (c : tie.After-bin-setting) → c.bin-setting.result ≤ 2
-at_most c = subst (λ (q : ℕ). q ≤ 2) (sym c.bin-setting.ensures) (setting-le c.before.args.registers)
+at_most : (c : tie.After-bin_setting-setting) → c.bin_setting-setting.result ≤ 2
+at_most c = subst (λ (q : ℕ). q ≤ 2) (sym c.bin_setting-setting.ensures) (setting-le c.args.registers)
 
-counted : (c : tie.After-bin-setting) → get_or (36 ∷ 64 ∷ 112 ∷ []) c.bin-setting.result 0 ≡ bands_of c.before.args.registers
-counted c = count_at c.bin-setting.result (at_most c) ∙ ap band_count c.bin-setting.ensures
+counted : (c : tie.After-bin_setting-setting) → get_or (36 ∷ 64 ∷ 112 ∷ []) c.bin_setting-setting.result 0 ≡ bands_of c.args.registers
+counted c = count_at c.bin_setting-setting.result (at_most c) ∙ ap band_count c.bin_setting-setting.ensures
 
-setting-requires : tie.Need-bin-setting-requires
+setting-requires : tie.Need-bin_setting-setting-requires
 setting-requires c κs = search rules
 
-cast-setting : tie.Need-overflow-cast-setting
+cast-setting : tie.Need-overflow_cast-setting
 cast-setting c = search rules
 
-array-read-result : tie.Need-array-read-result
+array-read-result : tie.Need-bounds-setting
 array-read-result c = omega (arith, at_most c)
 
-cast-result : tie.Need-overflow-cast-result
-cast-result c = omega (arith, counted c, bands-le c.before.args.registers)
+cast-result : tie.Need-overflow_cast-result
+cast-result c = omega (arith, counted c, bands-le c.args.registers)
 
 returns : tie.Need-returns
 returns c = counted c
 
-pub bands-spec : {M : Type 1} → statement M
-bands-spec = tie.close (tie.spec setting-requires cast-setting array-read-result cast-result returns)
+pub bands_spec : {M : Type 1} → statement M
+bands_spec = tie.close (tie.spec setting-requires cast-setting array-read-result cast-result returns)

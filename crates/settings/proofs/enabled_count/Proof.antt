@@ -10,29 +10,29 @@ use borrow.Author.Rules.{rules}
 use Rattle.settings.proofs.enabled_count.Statement.{statement}
 use Rattle.settings.proofs.enabled_count.Tie as tie
 
-abbrev invariant-loop : tie.invariant-loop
+abbrev invariant-loop : tie.invariant-loop-n
 invariant-loop registers count₀ n₀ count n = (n ≤ 7) × (count ≤ n) × (count ≡ enabled_before registers n)
 
-abbrev decreases-loop : tie.decreases-loop
+abbrev decreases-loop : tie.decreases-loop-n
 decreases-loop registers count₀ n₀ count n = 7 - n
 
-loop-holds : tie.Need-loop-init invariant-loop decreases-loop
+loop-holds : tie.Need-loop-n-init invariant-loop decreases-loop
 loop-holds c = (search rules, search rules, sym (sum_to-none _))
 
-loop-again : tie.Need-loop-preserved invariant-loop decreases-loop
+loop-again : tie.Need-loop-n-preserved invariant-loop decreases-loop
 loop-again c =
-    let r = c.before.before.before.before.args.registers in
-    let n = c.before.before.before.loop.n in
+    let r = c.args.registers in
+    let n = c.loop-n.n in
     ⊎_elim
-    (λ w. (search rules, omega arith, omega (arith, before_on r n (sym c.before.enabled.ensures ∙ w.0.taken))))
-    (λ w. (search rules, search rules, omega (arith, before-off r n (sym c.before.enabled.ensures ∙ w.0.left))))
-    c.if1.branch
+    (λ w. (search rules, omega arith, omega (arith, before_on r n (sym c.enabled.ensures ∙ w.0.taken))))
+    (λ w. (search rules, search rules, omega (arith, before-off r n (sym c.enabled.ensures ∙ w.0.left))))
+    c.if-enabled.branch
 
 returns : tie.Need-returns invariant-loop decreases-loop
-returns c = let e : c.before.loop.n ≡ 7 = omega arith in rw e at c.before.loop.invariant.2
+returns c = let e : c.loop-n.n ≡ 7 = omega arith in rw e at c.loop-n.invariant.2
 
-pub enabled-count-spec : {M : Type 1} → statement M
-enabled-count-spec =
+pub enabled_count_spec : {M : Type 1} → statement M
+enabled_count_spec =
     tie.close
     (tie.spec
     invariant-loop

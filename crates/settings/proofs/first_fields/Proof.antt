@@ -6,7 +6,7 @@ use Rattle.settings.proofs.first_fields.Statement.{statement}
 use Rattle.settings.proofs.first_fields.Tie as tie
 
 returns : tie.Need-returns
-returns c = c.of.ensures ∙ ap fields_of c.before.stored_at.ensures
+returns c = c.of.ensures ∙ ap fields_of c.stored_at.ensures
 
-pub first-fields-spec : {M : Type 1} → statement M
-first-fields-spec = tie.close (tie.spec (λ c. search rules) (λ c κs. search rules) (λ c κs. search rules) returns)
+pub first_fields_spec : {M : Type 1} → statement M
+first_fields_spec = tie.close (tie.spec (λ c. search rules) (λ c κs. search rules) (λ c κs. search rules) returns)

@@ -8,19 +8,19 @@ use borrow.Author.Rules.{rules}
 use Rattle.settings.proofs.running.Statement.{statement}
 use Rattle.settings.proofs.running.Tie as tie
 
-returns : tie.Need-returns
+returns : tie.Need-returns-then-enabled_count-eq0
 unfolding running_of
 returns c =
-    let none : enabled_count c.before.before.args.registers ≡ 0 = omega (arith, c.before.enabled-count.ensures) in
+    let none : enabled_count c.args.registers ≡ 0 = omega (arith, c.enabled_count.ensures) in
     rw none
 
-returns-2 : tie.Need-returns-2
+returns-2 : tie.Need-returns
 unfolding running_of
 returns-2 c =
-    let a = c.before.before.before.before.args.registers in
+    let a = c.args.registers in
     let some : 0 < enabled_count a = omega arith in
-    rw (lt-ltb 0 (enabled_count a) some, c.before.averaged-spectra.ensures, c.period-ticks.ensures)
+    rw (lt-ltb 0 (enabled_count a) some, c.averaged_spectra.ensures, c.period_ticks.ensures)
 
-pub running-spec : {M : Type 1} → statement M
-running-spec =
+pub running_spec : {M : Type 1} → statement M
+running_spec =
     tie.close (tie.spec (λ c κs. search rules) returns (λ c κs. search rules) (λ c κs. search rules) returns-2)

@@ -22,14 +22,14 @@ loop-holds c = (search rules, all_to-none _)
 
 returns : tie.Need-returns-then-not-can_store invariant-loop decreases-loop
 unfolding registers_sound
-returns c = sym (all_to-false _ 7 c.before.before.before.before.loop-n.n (search rules) (sym c.before.can_store.ensures ∙ not-true _ c.if-not-can_store.true-raw))
+returns c = sym (all_to-false _ 7 c.loop-n.n (search rules) (sym c.can_store.ensures ∙ not-true _ c.if-not-can_store.true-raw))
 
 loop-again : tie.Need-loop-n-preserved invariant-loop decreases-loop
-loop-again c = (search rules, all_to-more _ _ c.before.before.before.before.loop-n.invariant.1 (sym c.before.can_store.ensures ∙ not-false _ c.if-not-can_store.false-raw))
+loop-again c = (search rules, all_to-more _ _ c.loop-n.invariant.1 (sym c.can_store.ensures ∙ not-false _ c.if-not-can_store.false-raw))
 
 returns-2 : tie.Need-returns invariant-loop decreases-loop
 unfolding registers_sound
-returns-2 c = let e : c.before.loop-n.n ≡ 7 = omega arith in rw e at (sym c.before.loop-n.invariant.1)
+returns-2 c = let e : c.loop-n.n ≡ 7 = omega arith in rw e at (sym c.loop-n.invariant.1)
 
 pub is_sound_spec : {M : Type 1} → statement M
 is_sound_spec =

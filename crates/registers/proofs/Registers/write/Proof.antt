@@ -12,29 +12,29 @@ use Rattle.registers.proofs.Registers.write.Tie as tie
 returns : tie.Need-returns-then-not-is_sound
 unfolding write_outcome
 returns c =
-    let unsound : registers_sound c.before.before.args.self ≡ false = sym c.before.is_sound.ensures ∙ not-true _ c.if-not-is_sound.true-raw in
+    let unsound : registers_sound c.args.self ≡ false = sym c.is_sound.ensures ∙ not-true _ c.if-not-is_sound.true-raw in
     simp unsound
 
 returns-2 : tie.Need-returns-then-not-is_id
 unfolding write_outcome
 returns-2 c =
-    let a = c.before.before.before.before.args in
-    let ok : registers_sound a.self ≡ true = sym c.before.before.before.is_sound.ensures ∙ not-false _ c.before.before.if-not-is_sound.false-raw in
-    let unknown : is_id a.id ≡ false = sym c.before.is_id.ensures ∙ not-true _ c.if-not-is_id.true-raw in
+    let a = c.args in
+    let ok : registers_sound a.self ≡ true = sym c.is_sound.ensures ∙ not-false _ c.if-not-is_sound.false-raw in
+    let unknown : is_id a.id ≡ false = sym c.is_id.ensures ∙ not-true _ c.if-not-is_id.true-raw in
     simp (ok, unknown)
 
 sub-n : tie.Need-overflow_sub-n
-sub-n c = omega (arith, id_range c.before.before.before.before.args.id (sym c.before.is_id.ensures ∙ not-false _ c.if-not-is_id.false-raw))
+sub-n c = omega (arith, id_range c.args.id (sym c.is_id.ensures ∙ not-false _ c.if-not-is_id.false-raw))
 
 element-write-next : tie.Need-bounds-next-n
-element-write-next c = omega (arith, id_range c.before.before.before.before.before.args.id (sym c.before.before.is_id.ensures ∙ not-false _ c.before.if-not-is_id.false-raw))
+element-write-next c = omega (arith, id_range c.args.id (sym c.is_id.ensures ∙ not-false _ c.if-not-is_id.false-raw))
 
 returns-3 : tie.Need-returns
 unfolding write_outcome
 returns-3 c =
-    let a = c.before.before.before.before.before.args in
-    let ok : registers_sound a.self ≡ true = sym c.before.before.before.before.is_sound.ensures ∙ not-false _ c.before.before.before.if-not-is_sound.false-raw in
-    let known : is_id a.id ≡ true = sym c.before.before.is_id.ensures ∙ not-false _ c.before.if-not-is_id.false-raw in
+    let a = c.args in
+    let ok : registers_sound a.self ≡ true = sym c.is_sound.ensures ∙ not-false _ c.if-not-is_sound.false-raw in
+    let known : is_id a.id ≡ true = sym c.is_id.ensures ∙ not-false _ c.if-not-is_id.false-raw in
     simp (ok, known, c.stored_at-stored.ensures)
 
 pub write_spec : {M : Type 1} → statement M
