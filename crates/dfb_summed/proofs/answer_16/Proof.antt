@@ -13,15 +13,15 @@ use Rattle.dfb_summed.proofs.answer_16.Tie as tie
 abbrev number : Written → ℕ
 number w = outcome_number above16 (written_outcome w)
 
-cast-result : tie.Need-overflow-cast-result
+cast-result : tie.Need-overflow_cast-result
 cast-result c =
-    let few : c.before.answer.given.0.0 < above16 = subst (λ (w : Written). Fits (written_outcome w)) c.before.answer.given.1 c.before.before.before.requires in
+    let few : c.in-Count.n < above16 = subst (λ (w : Written). Fits (written_outcome w)) c.in-Count.is c.requires in
     omega (arith, few)
 
-returns-2 : tie.Need-returns-2
-returns-2 c = c.above-16.ensures ∙ ap number (sym c.before.before.answer2.given.1)
+returns-2 : tie.Need-returns-in-Refused
+returns-2 c = c.above_16.ensures ∙ ap number (sym c.in-Refused.is)
 
-pub answer-16-spec : {M : Type 1} → statement M
-answer-16-spec =
+pub answer_16_spec : {M : Type 1} → statement M
+answer_16_spec =
     tie.close
-    (tie.spec (λ c. search rules) cast-result (λ c. search rules) (λ c κs. search rules) (λ c. ap number (sym c.before.answer.given.1)) returns-2)
+    (tie.spec (λ c. search rules) cast-result (λ c. search rules) (λ c κs. search rules) (λ c. ap number (sym c.in-Count.is)) returns-2)
