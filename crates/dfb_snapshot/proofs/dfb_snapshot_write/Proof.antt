@@ -18,46 +18,46 @@ use Rattle.dfb_snapshot.proofs.Calls.{written-few}
 use Rattle.dfb_snapshot.proofs.dfb_snapshot_write.Statement.{statement}
 use Rattle.dfb_snapshot.proofs.dfb_snapshot_write.Tie as tie
 
-returns : tie.Need-returns
+returns : tie.Need-returns-then-not-is_header
 unfolding write_call
 returns c =
-    let a = c.before.before.before.before.before.args in
-    let other : header_taken a.header.now ≡ false = sym c.before.before.is-header.ensures ∙ not-true _ c.before.if1.true in
-    simp other (ap (λ (n : ℕ). record { answer = n; buffer = a.packet.now }) c.above-16.ensures)
+    let a = c.args in
+    let other : header_taken a.header.now ≡ false = sym c.is_header.ensures ∙ not-true _ c.if-not-is_header.true-raw in
+    simp other (ap (λ (n : ℕ). record { answer = n; buffer = a.packet.now }) c.above_16.ensures)
 
-ten : (c : tie.Else1) → header_taken c.before.before.before.before.args.header.now ≡ true
-ten c = sym c.before.is-header.ensures ∙ not-false _ c.if1.false
+ten : (c : tie.Else-not-is_header) → header_taken c.args.header.now ≡ true
+ten c = sym c.is_header.ensures ∙ not-false _ c.if-not-is_header.false-raw
 
 -- the call wrote what the rule writes
-written : (c : tie.After-write-packet) → let a = c.before.before.before.before.before.before.before.args in
-    filled c.write-packet.result c.write-packet.new.1.1.0 ≡ write_call a.header.now a.samples.now a.packet.now
+written : (c : tie.After-write_packet) → let a = c.args in
+    filled c.write_packet.result c.write_packet.new.packet ≡ write_call a.header.now a.samples.now a.packet.now
 unfolding write_call
 written c =
-    let a = c.before.before.before.before.before.before.before.args in
+    let a = c.args in
     simp (ten c.before.before.before)
-    (c.write-packet.ensures ∙ ap (λ (h : Header). packet_written h a.samples.now a.packet.now) c.before.before.load.ensures)
+    (c.write_packet.ensures ∙ ap (λ (h : Header). packet_written h a.samples.now a.packet.now) c.load.ensures)
 
-cast-result : tie.Need-overflow-cast-result
+cast-result : tie.Need-overflow_cast-result
 cast-result c =
-    let call = c.before.before.before.before.before in
-    let a = call.before.before.before.before.before.before.before.args in
-    let few = written-few call.before.before.load.result a.samples.now a.packet.now _
-    (sym (ap (λ (f : Filled ℕ). f.answer) call.write-packet.ensures) ∙ ap written_outcome c.before.n.given.1) in
+    let call = c in
+    let a = call.args in
+    let few = written-few call.load.result a.samples.now a.packet.now _
+    (sym (ap (λ (f : Filled ℕ). f.answer) call.write_packet.ensures) ∙ ap written_outcome c.in-Count.is) in
     omega (arith, few)
 
-returns-2 : tie.Need-returns-2
+returns-2 : tie.Need-returns-in-Count
 returns-2 c =
-    numbered above16 _ (sym (ap (λ (w : Written). outcome_number above16 (written_outcome w)) c.before.n.given.1))
-    (written c.before.before.before.before.before)
+    numbered above16 _ (sym (ap (λ (w : Written). outcome_number above16 (written_outcome w)) c.in-Count.is))
+    (written c.before.before.before)
 
-returns-3 : tie.Need-returns-3
+returns-3 : tie.Need-returns-in-Refused
 returns-3 c =
     numbered above16 _
-    (refused-number above16 c.before.before.refusal.given.0.0 c.above-162.ensures (ap written_outcome (sym c.before.before.refusal.given.1)))
-    (written c.before.before.before.before.before.before)
+    (refused-number above16 c.in-Refused.refusal c.above_16-in-Refused.ensures (ap written_outcome (sym c.in-Refused.is)))
+    (written c.before.before.before.before)
 
-pub dfb-snapshot-write-spec : {M : Type 1} → statement M
-dfb-snapshot-write-spec =
+pub dfb_snapshot_write_spec : {M : Type 1} → statement M
+dfb_snapshot_write_spec =
     tie.close
     (tie.spec
     (λ c κs. search rules)

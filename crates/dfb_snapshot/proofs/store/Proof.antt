@@ -9,13 +9,13 @@ use Rattle.dfb_snapshot.specs.Header.{header_numbers}
 use Rattle.dfb_snapshot.proofs.store.Statement.{statement}
 use Rattle.dfb_snapshot.proofs.store.Tie as tie
 
-number_fits : (c : tie.After-struct-known) → Fits w16 c.before.args.from.number
+number_fits : (c : tie.After-struct_known-1) → Fits w16 c.args.from.number
 number_fits c = search rules
 
 returns : tie.Need-returns
 returns c =
-    let a = c.before.before.before.before.before.before.before.before.before.args in
-    sets-eq (header_numbers a.from) a.header.now 0 c.before.before.before.before.before.before.before.before.before.requires
+    let a = c.args in
+    sets-eq (header_numbers a.from) a.header.now 0 c.requires
 
 pub store_spec : {M : Type 1} → statement M
 store_spec =
