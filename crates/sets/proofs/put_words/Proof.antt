@@ -60,10 +60,10 @@ loop-again c =
     let long : length (packed_bytes a.apid (take l.i a.samples.now)) ≡ 3 * l.i =
     packed-length a.apid (take l.i a.samples.now) ∙ ap (λ (k : ℕ). 3 * k) (length-take-le l.i a.samples.now (omega arith)) in
     let next : 3 * (l.i + 1) ≡ 3 * l.i + 3 = omega arith in
-    let put : c.put_word.new.0 ≡ packed_bytes a.apid (take (l.i + 1) a.samples.now) ++ drop (3 * (l.i + 1)) a.out.now =
+    let put : c.put_word.new.out ≡ packed_bytes a.apid (take (l.i + 1) a.samples.now) ++ drop (3 * (l.i + 1)) a.out.now =
     rw (c.put_word.ensures, l.invariant.3, c.bits_of.ensures, to_z-of_z w16 z fit, packed_more a.apid a.samples.now l.i h, next)
     (front-more (packed_bytes a.apid (take l.i a.samples.now)) (word_bytes a.apid (bits_of z)) a.out.now (3 * l.i) long (omega arith)) in
-    (omega arith, omega arith, c.put_word.auto.0 ∙ l.invariant.2, put)
+    (omega arith, omega arith, c.put_word.auto.out ∙ l.invariant.2, put)
 
 same_length : tie.Need-shape_of-out invariant-loop decreases-loop
 same_length c = c.loop-i.invariant.2
