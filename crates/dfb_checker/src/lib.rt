@@ -27,8 +27,7 @@ pub fn put_registers(registers: Registers, list: &mut [u16]) -> u64
 
 // Checks a command list; answers 0 with the final registers in registers[0..7]. Refused by 2 for a log of 2^55 bytes or more, then as the
 // check refuses, then by 2 for a list under 7; the offset of a refusal 2 is 0.
-#[unsafe(no_mangle)]
-pub extern "C" fn dfb_check_commands(log: &[u8], registers: &mut [u16]) -> u64
+pub fn dfb_check_commands(log: &[u8], registers: &mut [u16]) -> u64
     ensures { record { answer = result; buffer = registers.new } ≡ filled_number above63 (check_answer log.now registers.old) }
 {
     if dfb_refusals::TOO_LONG <= log.len() {

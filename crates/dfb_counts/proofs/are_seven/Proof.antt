@@ -6,5 +6,5 @@ use Rattle.dfb_counts.proofs.are_seven.Tie as tie
 returns : tie.Need-returns
 returns c = refl
 
-pub are-seven-spec : {M : Type 1} → statement M
-are-seven-spec = tie.close (tie.spec returns)
+pub are_seven_spec : {M : Type 1} → statement M
+are_seven_spec = tie.close (tie.spec returns)

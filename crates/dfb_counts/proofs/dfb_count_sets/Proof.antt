@@ -14,35 +14,34 @@ use Rattle.dfb_counts.proofs.Calls.{too_long, ending-answered}
 use Rattle.dfb_counts.proofs.dfb_count_sets.Statement.{statement}
 use Rattle.dfb_counts.proofs.dfb_count_sets.Tie as tie
 
-returns : tie.Need-returns
+returns : tie.Need-returns-then-log-ge-TOO_LONG
 returns c =
-    let a = c.before.before.before.before.before.args in
-    ap (λ (n : ℕ). lists_left n a.counts.now a.registers.now) c.above-63.ensures
-    ∙ ap count_number (too_long a.log.now a.counts.now a.registers.now (omega (arith, c.before.if1.true)))
+    let a = c.args in
+    ap (λ (n : ℕ). lists_left n a.counts.now a.registers.now) c.above_63.ensures
+    ∙ ap count_number (too_long a.log.now a.counts.now a.registers.now (omega (arith, c.if-log-ge-TOO_LONG.true)))
 
-returns-2 : tie.Need-returns-2
+returns-2 : tie.Need-returns-in-End
 returns-2 c =
-    let a = c.before.before.before.before.before.before.before.before.before.before.before.before.before.before.args in
-    let s = c.before.before.before.before.before.before.before.before.before.count-sets.ensures in
-    let e = sym (ap (λ (x : SetsCounted). x.ending) s) ∙ ap ending_outcome c.before.before.before.before.before.before.before.enum_told.given.1 in
-    c.before.before.before.before.put-counted.ensures
+    let a = c.args in
+    let s = c.count_sets-count.ensures in
+    let e = sym (ap (λ (x : SetsCounted). x.ending) s) ∙ ap ending_outcome c.in-End.is in
+    c.put_counted.ensures
     ∙ ap (λ (t : Tally). count_number (tally_put t a.counts.now a.registers.now)) (ap (λ (x : SetsCounted). x.tally) s)
-    ∙ sym (ap count_number (ending-answered a.log.now a.counts.now a.registers.now (end _) (omega (arith, c.before.before.before.before.before.before.before.before.before.before.if1.false)) e))
+    ∙ sym (ap count_number (ending-answered a.log.now a.counts.now a.registers.now (end _) (omega (arith, c.if-log-ge-TOO_LONG.false)) e))
 
-returns-3 : tie.Need-returns-3
+returns-3 : tie.Need-returns-in-Refused
 unfolding sets_counted
 returns-3 c =
-    let a = c.before.before.before.before.before.before.before.before.before.args in
-    let j = c.before.before.ending.given in
-    let n = number_of j.0.0 in
-    let offset = j.0.1.0 in
-    let e = sym (ap (λ (x : SetsCounted). x.ending) c.before.before.before.before.count-sets.ensures) ∙ ap ending_outcome j.1 in
-    let whole : offset % 2 ^ 55 ≡ offset = omega (arith, walk-offsets a.log.now n offset e, c.before.before.before.before.before.if1.false) in
-    ap (λ (k : ℕ). lists_left k a.counts.now a.registers.now) (c.above-63-at.ensures ∙ ap (λ (k : ℕ). above63 + with_offset n k) whole)
-    ∙ sym (ap count_number (ending-answered a.log.now a.counts.now a.registers.now (refused_at n offset) (omega (arith, c.before.before.before.before.before.if1.false)) e))
+    let a = c.args in
+    let n = number_of c.in-Refused.refusal in
+    let offset = c.in-Refused.offset in
+    let e = sym (ap (λ (x : SetsCounted). x.ending) c.count_sets-count.ensures) ∙ ap ending_outcome c.in-Refused.is in
+    let whole : offset % 2 ^ 55 ≡ offset = omega (arith, walk-offsets a.log.now n offset e, c.if-log-ge-TOO_LONG.false) in
+    ap (λ (k : ℕ). lists_left k a.counts.now a.registers.now) (c.above_63_at.ensures ∙ ap (λ (k : ℕ). above63 + with_offset n k) whole)
+    ∙ sym (ap count_number (ending-answered a.log.now a.counts.now a.registers.now (refused_at n offset) (omega (arith, c.if-log-ge-TOO_LONG.false)) e))
 
-pub dfb-count-sets-spec : {M : Type 1} → statement M
-dfb-count-sets-spec =
+pub dfb_count_sets_spec : {M : Type 1} → statement M
+dfb_count_sets_spec =
     tie.close
     (tie.spec
     (λ c κs. search rules)

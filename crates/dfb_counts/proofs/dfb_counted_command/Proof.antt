@@ -9,30 +9,30 @@ use Rattle.dfb_counts.proofs.Calls.{sevens, call-other, call-done, registers-len
 use Rattle.dfb_counts.proofs.dfb_counted_command.Statement.{statement}
 use Rattle.dfb_counts.proofs.dfb_counted_command.Tie as tie
 
-returns : tie.Need-returns
+returns : tie.Need-returns-then-not-are_seven
 returns c =
-    let a = c.before.before.before.before.before.before.args in
-    ap (λ (n : ℕ). call_left a.log.now (lists_left n a.counts.now a.registers.now)) c.above-63.ensures
-    ∙ call-other a.log.now a.used a.counts.now a.registers.now (command a.id a.information) (sym c.before.before.are-seven.ensures ∙ not-true _ c.before.if1.true)
+    let a = c.args in
+    ap (λ (n : ℕ). call_left a.log.now (lists_left n a.counts.now a.registers.now)) c.above_63.ensures
+    ∙ call-other a.log.now a.used a.counts.now a.registers.now (command a.id a.information) (sym c.are_seven.ensures ∙ not-true _ c.if-not-are_seven.true-raw)
 
 load-requires : tie.Need-load-requires
 load-requires c κs =
-    let a = c.before.before.before.before.before.before.before.before.args in
-    sevens a.counts.now a.registers.now (sym c.before.before.before.before.are-seven.ensures ∙ not-false _ c.before.before.before.if1.false)
+    let a = c.args in
+    sevens a.counts.now a.registers.now (sym c.are_seven.ensures ∙ not-false _ c.if-not-are_seven.false-raw)
 
-returns-2 : tie.Need-returns-2
+returns-2 : tie.Need-returns
 returns-2 c =
-    let a = c.before.before.before.before.before.before.before.before.before.before.before.before.before.before.before.before.before.before.args in
-    let o = counted_outcome c.before.before.before.before.before.before.before.before.command.result c.before.before.before.before.before.before.before.before.command.new.0 in
-    let is-seven = sym c.before.before.before.before.before.before.before.before.before.before.before.before.before.before.are-seven.ensures ∙ not-false _ c.before.before.before.before.before.before.before.before.before.before.before.before.before.if1.false in
+    let a = c.args in
+    let o = counted_outcome c.command-done.result c.command-done.new.log in
+    let is-seven = sym c.are_seven.ensures ∙ not-false _ c.if-not-are_seven.false-raw in
     let seven = sevens a.counts.now a.registers.now is-seven in
-    let registers-long = registers-length a.log.now a.used a.counts.now a.registers.now (command a.id a.information) o _ c.before.before.before.before.before.before.before.before.before.load.ensures c.before.before.before.before.before.before.before.before.command.ensures ∙ seven.1 in
-    call-done a.log.now a.used a.counts.now a.registers.now (command a.id a.information) o _ _ _ _ is-seven c.before.before.before.before.before.before.before.before.before.load.ensures c.before.before.before.before.before.before.before.before.command.ensures c.written-63.ensures
-    (counts-kept a.log.now a.used a.counts.now a.registers.now (command a.id a.information) (command-counts a.id a.information) o _ c.before.before.before.before.before.before.before.before.before.load.ensures c.before.before.before.before.before.before.before.before.command.ensures)
-    (registers-all c.before.before.before.before.before.before.before.before.command.result.tally.registers a.registers.now _ _ registers-long seven.1 c.before.before.before.put-registers.ensures)
+    let registers-long = registers-length a.log.now a.used a.counts.now a.registers.now (command a.id a.information) o _ c.load.ensures c.command-done.ensures ∙ seven.1 in
+    call-done a.log.now a.used a.counts.now a.registers.now (command a.id a.information) o _ _ _ _ is-seven c.load.ensures c.command-done.ensures c.written_63.ensures
+    (counts-kept a.log.now a.used a.counts.now a.registers.now (command a.id a.information) (command-counts a.id a.information) o _ c.load.ensures c.command-done.ensures)
+    (registers-all c.command-done.result.tally.registers a.registers.now _ _ registers-long seven.1 c.put_registers.ensures)
 
-pub dfb-counted-command-spec : {M : Type 1} → statement M
-dfb-counted-command-spec =
+pub dfb_counted_command_spec : {M : Type 1} → statement M
+dfb_counted_command_spec =
     tie.close
     (tie.spec
     (λ c κs. search rules)

@@ -10,35 +10,35 @@ use Rattle.dfb_counts.proofs.Calls.{sevens, call-other, call-done, counts-length
 use Rattle.dfb_counts.proofs.dfb_counted_set.Statement.{statement}
 use Rattle.dfb_counts.proofs.dfb_counted_set.Tie as tie
 
-returns : tie.Need-returns
+returns : tie.Need-returns-then-not-are_seven
 returns c =
-    let a = c.before.before.before.before.before.before.args in
-    ap (λ (n : ℕ). call_left a.log.now (lists_left n a.counts.now a.registers.now)) c.above-63.ensures
-    ∙ call-other a.log.now a.used a.counts.now a.registers.now (set a.apid a.samples.now) (sym c.before.before.are-seven.ensures ∙ not-true _ c.before.if1.true)
+    let a = c.args in
+    ap (λ (n : ℕ). call_left a.log.now (lists_left n a.counts.now a.registers.now)) c.above_63.ensures
+    ∙ call-other a.log.now a.used a.counts.now a.registers.now (set a.apid a.samples.now) (sym c.are_seven.ensures ∙ not-true _ c.if-not-are_seven.true-raw)
 
 load-requires : tie.Need-load-requires
 load-requires c κs =
-    let a = c.before.before.before.before.before.before.before.before.args in
-    sevens a.counts.now a.registers.now (sym c.before.before.before.before.are-seven.ensures ∙ not-false _ c.before.before.before.if1.false)
+    let a = c.args in
+    sevens a.counts.now a.registers.now (sym c.are_seven.ensures ∙ not-false _ c.if-not-are_seven.false-raw)
 
-put-counts-requires : tie.Need-put-counts-requires
+put-counts-requires : tie.Need-put_counts-requires
 put-counts-requires c κs =
-    let a = c.before.before.before.before.before.before.before.before.before.before.before.before.before.before.args in
-    omega (arith, (sevens a.counts.now a.registers.now (sym c.before.before.before.before.before.before.before.before.before.before.are-seven.ensures ∙ not-false _ c.before.before.before.before.before.before.before.before.before.if1.false)).0)
+    let a = c.args in
+    omega (arith, (sevens a.counts.now a.registers.now (sym c.are_seven.ensures ∙ not-false _ c.if-not-are_seven.false-raw)).0)
 
-returns-2 : tie.Need-returns-2
+returns-2 : tie.Need-returns
 returns-2 c =
-    let a = c.before.before.before.before.before.before.before.before.before.before.before.before.before.before.before.before.before.before.args in
-    let o = counted_outcome c.before.before.before.before.before.before.before.before.set.result c.before.before.before.before.before.before.before.before.set.new.0 in
-    let is-seven = sym c.before.before.before.before.before.before.before.before.before.before.before.before.before.before.are-seven.ensures ∙ not-false _ c.before.before.before.before.before.before.before.before.before.before.before.before.before.if1.false in
+    let a = c.args in
+    let o = counted_outcome c.set-done.result c.set-done.new.log in
+    let is-seven = sym c.are_seven.ensures ∙ not-false _ c.if-not-are_seven.false-raw in
     let seven = sevens a.counts.now a.registers.now is-seven in
-    let counts-long = counts-length a.log.now a.used a.counts.now a.registers.now (set a.apid a.samples.now) o _ c.before.before.before.before.before.before.before.before.before.load.ensures c.before.before.before.before.before.before.before.before.set.ensures ∙ seven.0 in
-    call-done a.log.now a.used a.counts.now a.registers.now (set a.apid a.samples.now) o _ _ _ _ is-seven c.before.before.before.before.before.before.before.before.before.load.ensures c.before.before.before.before.before.before.before.before.set.ensures c.written-63.ensures
-    (counts-put c.before.before.before.before.before.before.before.before.set.result.tally.counts a.counts.now _ counts-long seven.0 c.before.before.before.put-counts.ensures)
-    (registers-kept a.log.now a.used a.counts.now a.registers.now (set a.apid a.samples.now) (set-registers a.apid a.samples.now) o _ c.before.before.before.before.before.before.before.before.before.load.ensures c.before.before.before.before.before.before.before.before.set.ensures)
+    let counts-long = counts-length a.log.now a.used a.counts.now a.registers.now (set a.apid a.samples.now) o _ c.load.ensures c.set-done.ensures ∙ seven.0 in
+    call-done a.log.now a.used a.counts.now a.registers.now (set a.apid a.samples.now) o _ _ _ _ is-seven c.load.ensures c.set-done.ensures c.written_63.ensures
+    (counts-put c.set-done.result.tally.counts a.counts.now _ counts-long seven.0 c.put_counts.ensures)
+    (registers-kept a.log.now a.used a.counts.now a.registers.now (set a.apid a.samples.now) (set-registers a.apid a.samples.now) o _ c.load.ensures c.set-done.ensures)
 
-pub dfb-counted-set-spec : {M : Type 1} → statement M
-dfb-counted-set-spec =
+pub dfb_counted_set_spec : {M : Type 1} → statement M
+dfb_counted_set_spec =
     tie.close
     (tie.spec
     (λ c κs. search rules)

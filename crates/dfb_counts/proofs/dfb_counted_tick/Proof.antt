@@ -9,28 +9,28 @@ use Rattle.dfb_counts.proofs.Calls.{sevens, call-other, call-done, counts-kept, 
 use Rattle.dfb_counts.proofs.dfb_counted_tick.Statement.{statement}
 use Rattle.dfb_counts.proofs.dfb_counted_tick.Tie as tie
 
-returns : tie.Need-returns
+returns : tie.Need-returns-then-not-are_seven
 returns c =
-    let a = c.before.before.before.before.before.before.args in
-    ap (λ (n : ℕ). call_left a.log.now (lists_left n a.counts.now a.registers.now)) c.above-63.ensures
-    ∙ call-other a.log.now a.used a.counts.now a.registers.now tick (sym c.before.before.are-seven.ensures ∙ not-true _ c.before.if1.true)
+    let a = c.args in
+    ap (λ (n : ℕ). call_left a.log.now (lists_left n a.counts.now a.registers.now)) c.above_63.ensures
+    ∙ call-other a.log.now a.used a.counts.now a.registers.now tick (sym c.are_seven.ensures ∙ not-true _ c.if-not-are_seven.true-raw)
 
 load-requires : tie.Need-load-requires
 load-requires c κs =
-    let a = c.before.before.before.before.before.before.before.before.args in
-    sevens a.counts.now a.registers.now (sym c.before.before.before.before.are-seven.ensures ∙ not-false _ c.before.before.before.if1.false)
+    let a = c.args in
+    sevens a.counts.now a.registers.now (sym c.are_seven.ensures ∙ not-false _ c.if-not-are_seven.false-raw)
 
-returns-2 : tie.Need-returns-2
+returns-2 : tie.Need-returns
 returns-2 c =
-    let a = c.before.before.before.before.before.before.before.before.before.before.before.before.before.args in
-    let o = counted_outcome c.before.before.before.tick.result c.before.before.before.tick.new.0 in
-    let is-seven = sym c.before.before.before.before.before.before.before.before.before.are-seven.ensures ∙ not-false _ c.before.before.before.before.before.before.before.before.if1.false in
-    call-done a.log.now a.used a.counts.now a.registers.now tick o _ _ _ _ is-seven c.before.before.before.before.load.ensures c.before.before.before.tick.ensures c.written-63.ensures
-    (counts-kept a.log.now a.used a.counts.now a.registers.now tick (tick-counts) o _ c.before.before.before.before.load.ensures c.before.before.before.tick.ensures)
-    (registers-kept a.log.now a.used a.counts.now a.registers.now tick (tick-registers) o _ c.before.before.before.before.load.ensures c.before.before.before.tick.ensures)
+    let a = c.args in
+    let o = counted_outcome c.tick-done.result c.tick-done.new.log in
+    let is-seven = sym c.are_seven.ensures ∙ not-false _ c.if-not-are_seven.false-raw in
+    call-done a.log.now a.used a.counts.now a.registers.now tick o _ _ _ _ is-seven c.load.ensures c.tick-done.ensures c.written_63.ensures
+    (counts-kept a.log.now a.used a.counts.now a.registers.now tick (tick-counts) o _ c.load.ensures c.tick-done.ensures)
+    (registers-kept a.log.now a.used a.counts.now a.registers.now tick (tick-registers) o _ c.load.ensures c.tick-done.ensures)
 
-pub dfb-counted-tick-spec : {M : Type 1} → statement M
-dfb-counted-tick-spec =
+pub dfb_counted_tick_spec : {M : Type 1} → statement M
+dfb_counted_tick_spec =
     tie.close
     (tie.spec
     (λ c κs. search rules)

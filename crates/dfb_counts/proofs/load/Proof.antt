@@ -9,8 +9,8 @@ use Rattle.dfb_counts.proofs.load.Tie as tie
 
 returns : tie.Need-returns
 returns c =
-    let a = c.before.before.before.before.before.before.before.before.before.before.before.before.before.before.args in
-    let long = c.before.before.before.before.before.before.before.before.before.before.before.before.before.before.requires in
+    let a = c.args in
+    let long = c.requires in
     ap₂ {C = Tally} tally_lists (seven-all a.counts.now long.0) (seven-all a.registers.now long.1)
 
 pub load_spec : {M : Type 1} → statement M
