@@ -36,8 +36,12 @@ fn words(text: &str) -> &str {
     }
 }
 
-// Says on standard error what failed, and why in the system's words.
-pub fn fail<R: Eprint + Alloc>(rt: &R, what: &str, error: io::Error) -> io::Result<()> {
+fn try_fail<R: Eprint + Alloc>(rt: &R, what: &str, error: io::Error) -> io::Result<()> {
     let text = format!(in rt.alloc(); "{error}")?;
     eprintln!(rt; "{what}: {}", words(text.as_str()))
+}
+
+// Says on standard error what failed, and why in the system's words. Where that fails too, there is nowhere left to say so.
+pub fn fail<R: Eprint + Alloc>(rt: &R, what: &str, error: io::Error) {
+    let _ = try_fail(rt, what, error);
 }
