@@ -115,7 +115,8 @@ fn show_mean<W: Write>(
     let between = tick_with(writer, before, &mut totals, first, &mut out)?;
     let after = tick_with(writer, between, &mut totals, second, &mut out)?;
     show_first_word(writer, &out)?;
-    tick_with(writer, after, &mut totals, second, &mut out)
+    tick_with(writer, after, &mut totals, second, &mut out)?;
+    Ok(())
 }
 
 // One tick without powers: its answer, and the number of reports after it.
@@ -176,7 +177,8 @@ fn show_numbers<W: Write>(writer: &mut W) -> io::Result<()> {
     let past = tick_numbered(writer, last, &mut totals, &mut out)?;
     let again = command_numbered(writer, past, &mut totals, 0x37, 0x0020)?;
     let same = command_numbered(writer, again, &mut totals, 0x30, 0x0020)?;
-    tick_numbered(writer, same, &mut totals, &mut out)
+    tick_numbered(writer, same, &mut totals, &mut out)?;
+    Ok(())
 }
 
 // N = 2, C = 4: collected and waiting ticks leave the number. Then the board without its enabled processor, which is not running, and in

@@ -321,8 +321,7 @@ fn run<W: Write>(writer: &mut W, input: &[u8], log: &mut [u8]) -> io::Result<()>
         let from = at + HEADER;
         let next = from + data_length(operation.op, operation.b);
         if input.len() < next {
-            expect(writer, false)?;
-            return Ok(());
+            return expect(writer, false);
         }
         if operation.op == 0 {
             capacity = operation.b as usize;

@@ -169,16 +169,16 @@ fn pair(a: u8, b: u8) -> u16 {
 // The record of a kind, with a body of the first of four bytes.
 fn record_of<W: Write>(writer: &mut W, kind: u8, a: u8, b: u8, c: u8, d: u8) -> io::Result<Record> {
     if kind == 1 {
-        return Record::Command(Command {
+        return Ok(Record::Command(Command {
             id: a,
             information: pair(b, c),
-        });
+        }));
     }
     if kind == 2 {
-        return Record::Word(Word {
+        return Ok(Record::Word(Word {
             apid: a,
             bits: pair(b, c),
-        });
+        }));
     }
     if kind == 3 {
         return Ok(Record::SecondMark(quad(a, b, c, d)));

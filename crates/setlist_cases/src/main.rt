@@ -21,8 +21,7 @@ fn expect<W: Write>(writer: &mut W, ok: bool) -> io::Result<()> {
 fn print<W: Write>(writer: &mut W, text: &[u8]) -> io::Result<()> {
     let n = text.len();
     if n <= 65536 {
-        writer.write_all(text)?;
-        return Ok(());
+        return writer.write_all(text);
     }
     write!(writer, "{}", n as u64)?;
     writer.write_all(b"\n")?;

@@ -81,7 +81,7 @@ fn show_refusal<W: Write>(writer: &mut W, refusal: Refusal) -> io::Result<()> {
 
 // Prints a number in so many hexadecimal digits.
 fn show_number<W: Write>(writer: &mut W, n: u64, digits: usize) -> io::Result<()> {
-    write!(writer, " {n:0digitsx}")
+    write!(writer, " {n:0digits$x}")
 }
 
 // Prints a header in the order of the packet.
@@ -246,24 +246,16 @@ fn show_case<W: Write>(
     body: &[u8],
 ) -> io::Result<()> {
     if call == 1 {
-        show_read(
-            writer,
-            body,
-            at_most(writer, lent, SAMPLES)?,
-            at_most(writer, shown, SAMPLES)?,
-        )?;
-        return Ok(());
+        let lent = at_most(writer, lent, SAMPLES)?;
+        let shown = at_most(writer, shown, SAMPLES)?;
+        return show_read(writer, body, lent, shown);
     }
     if call != 2 || body.len() < HEADER {
-        expect(writer, false)?;
-        return Ok(());
+        return expect(writer, false);
     }
-    show_write_of(
-        writer,
-        body,
-        at_most(writer, lent, BYTES)?,
-        at_most(writer, shown, BYTES)?,
-    )
+    let lent = at_most(writer, lent, BYTES)?;
+    let shown = at_most(writer, shown, BYTES)?;
+    show_write_of(writer, body, lent, shown)
 }
 
 // Shows each case of input.
@@ -273,8 +265,7 @@ fn show_cases<W: Write>(writer: &mut W, input: &[u8]) -> io::Result<()> {
         let from = at + CASE;
         let next = from + pair(input[at + 1], input[at + 2]) as usize;
         if input.len() < next {
-            expect(writer, false)?;
-            return Ok(());
+            return expect(writer, false);
         }
         let lent = pair(input[at + 3], input[at + 4]);
         let shown = pair(input[at + 5], input[at + 6]);

@@ -251,8 +251,7 @@ fn export<W: Write>(
     lent: usize,
 ) -> io::Result<()> {
     if out.len() < lent {
-        expect(writer, false)?;
-        return Ok(());
+        return expect(writer, false);
     }
     show_exported(
         writer,
@@ -289,8 +288,7 @@ fn import<W: Write>(
     lent: usize,
 ) -> io::Result<()> {
     if samples.len() < lent {
-        expect(writer, false)?;
-        return Ok(());
+        return expect(writer, false);
     }
     show_header_read(writer, space_packets::read_header(packet))?;
     show_imported(
@@ -339,8 +337,7 @@ fn run_export<W: Write>(
     let n = half(body.len());
     let more = number_at(case, 6) as usize;
     if samples.len() < n + more {
-        expect(writer, false)?;
-        return Ok(());
+        return expect(writer, false);
     }
     take_samples(body, &mut samples[0..n]);
     make_samples(
@@ -364,8 +361,7 @@ fn run_import<W: Write>(
     let n = body.len();
     let more = number_at(case, 6) as usize;
     if packet.len() < n + more {
-        expect(writer, false)?;
-        return Ok(());
+        return expect(writer, false);
     }
     take_bytes(body, &mut packet[0..n]);
     make_bytes(
@@ -405,8 +401,7 @@ fn run_all<W: Write>(
         let from = at + CASE;
         let next = from + number_at(input, at + 4) as usize;
         if input.len() < next {
-            expect(writer, false)?;
-            return Ok(());
+            return expect(writer, false);
         }
         run(writer, &input[at..from], &input[from..next], samples, bytes)?;
         at = next;

@@ -139,7 +139,7 @@ fn sum_of_bytes(bytes: &[u8]) -> u64 {
 
 // Prints a number in so many hexadecimal digits.
 fn show_number<W: Write>(writer: &mut W, n: u64, digits: usize) -> io::Result<()> {
-    write!(writer, " {n:0digitsx}")
+    write!(writer, " {n:0digits$x}")
 }
 
 fn show_answer<W: Write>(writer: &mut W, answer: Written) -> io::Result<()> {
@@ -268,8 +268,7 @@ fn give_pairs<W: Write>(writer: &mut W, pairs: &mut [i16], operation: &[u8]) -> 
     let im = pair(operation[9], operation[10]);
     let im_step = pair(operation[11], operation[12]);
     if pairs.len() < to + to {
-        expect(writer, false)?;
-        return Ok(());
+        return expect(writer, false);
     }
     put_pairs(pairs, from, to, re, re_step, im, im_step);
     Ok(())
@@ -284,8 +283,7 @@ fn give_totals<W: Write>(writer: &mut W, totals: &mut [u64], operation: &[u8]) -
     let high = quad_at(operation, 5) % 4294967296;
     let low = quad_at(operation, 9) % 4294967296;
     if totals.len() < to {
-        expect(writer, false)?;
-        return Ok(());
+        return expect(writer, false);
     }
     put_totals(totals, from, to, high * 4294967296 + low);
     Ok(())
