@@ -34,44 +34,44 @@ computed setting k w e a b is width =
       shift_le = omega (arith, is, exponent-le w 10 k b);
     }
 
-returns : tie.Need-returns
-returns c = simp (lt-leb c.before.args.setting 2 (omega arith))
+returns : tie.Need-returns-then-setting-gt-BINS_LIMIT
+returns c = simp (lt-leb c.args.setting 2 (omega arith))
 
-returns-2 : tie.Need-returns-2
-returns-2 c = simp (le-leb c.before.before.args.setting 2 (omega arith), lt-leb c.before.before.args.bin 1023 (omega arith))
+returns-2 : tie.Need-returns-then-bin-ge-BINS
+returns-2 c = simp (le-leb c.args.setting 2 (omega arith), lt-leb c.args.bin 1023 (omega arith))
 
-add-s : tie.Need-overflow-add-s
+add-s : tie.Need-overflow_add-s
 add-s c = search rules
 
-add-exponent : tie.Need-overflow-add-exponent
+add-exponent : tie.Need-overflow_add-s-2
 add-exponent c = search rules
 
-exponent-requires : tie.Need-exponent-requires
+exponent-requires : tie.Need-exponent-e-requires
 exponent-requires c κs = search rules
 
-band : (c : tie.After-exponent) → Computed c.before.before.before.args.setting c.before.before.before.args.bin c.exponent.result
+band : (c : tie.After-exponent-e) → Computed c.args.setting c.args.bin c.exponent-e.result
 band c =
-    computed c.before.before.before.args.setting c.before.before.before.args.bin _ _ (omega arith) (omega arith) c.exponent.ensures (omega arith)
+    computed c.args.setting c.args.bin _ _ (omega arith) (omega arith) c.exponent-e.ensures (omega arith)
 
-shl-band : tie.Need-overflow-shl-band
+shl-band : tie.Need-overflow_shl-band
 shl-band c = search rules
 
-shr-band : tie.Need-overflow-shr-band
+shr-band : tie.Need-overflow_shr-band
 shr-band c = omega (arith, (band c).shift_le)
 
-add-band : tie.Need-overflow-add-band
+add-band : tie.Need-overflow_add-band
 add-band c = omega (arith, (band c).is, (band c).small)
 
-cast-band : tie.Need-overflow-cast-band
+cast-band : tie.Need-overflow_cast-band-2
 cast-band c = omega (arith, (band c).is, (band c).small)
 
-returns-3 : tie.Need-returns-3
+returns-3 : tie.Need-returns
 returns-3 c =
-    simp (le-leb c.before.before.before.args.setting 2 (omega arith), le-leb c.before.before.before.args.bin 1023 (omega arith))
+    simp (le-leb c.args.setting 2 (omega arith), le-leb c.args.bin 1023 (omega arith))
     (ap given (band c).is)
 
-pub band-of-spec : {M : Type 1} → statement M
-band-of-spec =
+pub band_of_spec : {M : Type 1} → statement M
+band_of_spec =
     tie.close
     (tie.spec
     returns

@@ -27,66 +27,66 @@ computed-is setting b e small h is =
     ∙ rw (mod-eq_of_lt (lt_of_le_of_lt r.base-le small), one-mul, mul_comm (width_exponent (size_exponent setting) b) (2 ^ (setting + 2)))
     (ap₂ (λ (x y : ℕ). record { start = x; width = y }) (mod-eq_of_lt (omega (arith, r.within))) (mod-eq_of_lt (omega (arith, r.within))))
 
-returns : tie.Need-returns
-returns c = simp (lt-leb c.before.args.setting 2 (omega arith))
+returns : tie.Need-returns-then-setting-gt-BINS_LIMIT
+returns c = simp (lt-leb c.args.setting 2 (omega arith))
 
-array-read-if2 : tie.Need-array-read-if2
+array-read-if2 : tie.Need-bounds-i
 array-read-if2 c = search rules
 
-returns-2 : tie.Need-returns-2
+returns-2 : tie.Need-returns-then-i-band
 returns-2 c =
-    rw (has-not-band c.before.before.args.setting c.before.before.args.band (omega (arith, count_at c.before.before.args.setting (omega arith))))
+    rw (has-not-band c.args.setting c.args.band (omega (arith, count_at c.args.setting (omega arith))))
 
 -- past the tests the setting has the band
-below : (c : tie.Else2) → c.before.before.args.band < band_count c.before.before.args.setting
-below c = omega (arith, count_at c.before.before.args.setting (omega arith))
+below : (c : tie.Else-i-band) → c.args.band < band_count c.args.setting
+below c = omega (arith, count_at c.args.setting (omega arith))
 
-known : (c : tie.Else2) → Range c.before.before.args.setting c.before.before.args.band
+known : (c : tie.Else-i-band) → Range c.args.setting c.args.band
 known c = range _ _ (below c)
 
-is-exponent : (c : tie.After-width-exponent) → c.width-exponent.result ≡ width_exponent (c.before.before.before.args.setting + 2) c.before.before.before.args.band
+is-exponent : (c : tie.After-width_exponent-e) → c.width_exponent-e.result ≡ width_exponent (c.args.setting + 2) c.args.band
 unfolding width_exponent
-is-exponent c = c.width-exponent.ensures
+is-exponent c = c.width_exponent-e.ensures
 
-add-s : tie.Need-overflow-add-s
+add-s : tie.Need-overflow_add-s
 add-s c = omega (arith, (known c).setting-le)
 
-shr-width-exponent : tie.Need-overflow-shr-width-exponent
+shr-width-exponent : tie.Need-overflow_shr-band
 shr-width-exponent c = omega (arith, (known c).setting-le)
 
-width-exponent-requires : tie.Need-width-exponent-requires
+width-exponent-requires : tie.Need-width_exponent-e-requires
 width-exponent-requires c κs = search rules
 
-shl-m : tie.Need-overflow-shl-m
+shl-m : tie.Need-overflow_shl-m
 shl-m c = omega (arith, (known c.before).setting-le)
 
-sub-m : tie.Need-overflow-sub-m
+sub-m : tie.Need-overflow_sub-m
 sub-m c =
     le_trans (mod-le _ 256)
-    (subst (λ (e : ℕ). e * 2 ^ (c.before.before.before.args.setting + 2) ≤ c.before.before.before.args.band) (sym (is-exponent c)) (known c.before).base-le)
+    (subst (λ (e : ℕ). e * 2 ^ (c.args.setting + 2) ≤ c.args.band) (sym (is-exponent c)) (known c.before).base-le)
 
-cast-t7 : tie.Need-overflow-cast-t7
+cast-t7 : tie.Need-overflow_cast-result
 cast-t7 c = search rules
 
-cast-t15 : tie.Need-overflow-cast-t15
+cast-t15 : tie.Need-overflow_cast-result-2
 cast-t15 c = search rules
 
-shl-t16 : tie.Need-overflow-shl-t16
+shl-t16 : tie.Need-overflow_shl-result
 shl-t16 c = omega (arith, is-exponent c, (known c.before).exponent_lt)
 
-cast-t17 : tie.Need-overflow-cast-t17
+cast-t17 : tie.Need-overflow_cast-result-3
 cast-t17 c = search rules
 
-shl-t18 : tie.Need-overflow-shl-t18
+shl-t18 : tie.Need-overflow_shl-result-2
 shl-t18 c = omega (arith, is-exponent c, (known c.before).exponent_lt)
 
-returns-3 : tie.Need-returns-3
+returns-3 : tie.Need-returns
 returns-3 c =
     let h = below c.before in
-    rw (has-band _ _ h) (ap given (computed-is _ _ c.width-exponent.result c.before.before.before.ranges.band.fits h (is-exponent c)))
+    rw (has-band _ _ h) (ap given (computed-is _ _ c.width_exponent-e.result c.ranges.band.fits h (is-exponent c)))
 
-pub bins-of-band-spec : {M : Type 1} → statement M
-bins-of-band-spec =
+pub bins_of_band_spec : {M : Type 1} → statement M
+bins_of_band_spec =
     tie.close
     (tie.spec
     returns

@@ -39,31 +39,31 @@ right = tabulate-agree 11 computed cadence_of refl
 answered : (choice : ℕ) (r : Cadence) → cadence_outcome r ≡ cadence_of choice → (cadence_outcome r ≡ cadence_of choice) × ExactCadence choice r
 answered choice r is = (is, exact-cadence choice r is)
 
-returns : tie.Need-returns
-returns c = answered _ _ (simp (lt-leb c.before.args.choice 10 (omega arith)))
+returns : tie.Need-returns-then-choice-gt-NCAD_LIMIT
+returns c = answered _ _ (simp (lt-leb c.args.choice 10 (omega arith)))
 
-shl-ticks : tie.Need-overflow-shl-ticks
+shl-ticks : tie.Need-overflow_shl-ticks
 shl-ticks c = search rules
 
-int-to-float-t7 : tie.Need-int-to-float-t7
+int-to-float-t7 : tie.Need-int_to_float-result
 int-to-float-t7 c = search rules
 
-int-to-float-t9 : tie.Need-int-to-float-t9
+int-to-float-t9 : tie.Need-int_to_float-result-else-ticks-le8
 int-to-float-t9 c = search rules
 
-returns-2 : tie.Need-returns-2
+returns-2 : tie.Need-returns-then-ticks-le8
 unfolding computed
 returns-2 c =
-    let choice = c.before.before.before.args.choice in
+    let choice = c.args.choice in
     let same : computed choice ≡ rate_computed choice = rw (le-leb (ticks choice) 8 (omega arith)) in
     answered choice _ (sym same ∙ right choice (omega arith))
 
-returns-3 : tie.Need-returns-3
+returns-3 : tie.Need-returns-else-ticks-le8
 unfolding computed
 returns-3 c =
-    let choice = c.before.before.before.args.choice in
+    let choice = c.args.choice in
     let same : computed choice ≡ period_computed choice = rw (lt-leb (ticks choice) 8 (omega arith)) in
     answered choice _ (sym same ∙ right choice (omega arith))
 
-pub cadence-of-spec : {M : Type 1} → statement M
-cadence-of-spec = tie.close (tie.spec returns shl-ticks int-to-float-t7 int-to-float-t9 returns-2 returns-3)
+pub cadence_of_spec : {M : Type 1} → statement M
+cadence_of_spec = tie.close (tie.spec returns shl-ticks int-to-float-t7 int-to-float-t9 returns-2 returns-3)

@@ -23,33 +23,33 @@ answered : (setting b : ℕ) (r : BandDescription) → band_description_outcome 
     (band_description_outcome r ≡ band_described setting b) × ExactDescription setting b r
 answered setting b r is = (is, exact-description setting b r is)
 
-bins-of-band-requires : tie.Need-bins-of-band-requires
+bins-of-band-requires : tie.Need-bins_of_band-found-requires
 bins-of-band-requires c κs = search rules
 
-enum-known-found : tie.Need-enum-known-found
+enum-known-found : tie.Need-enum_known-found
 enum-known-found c = search rules
 
-enum_told : tie.Need-enum-told
+enum_told : tie.Need-enum_told-1
 enum_told c = search rules
 
-returns : tie.Need-returns
+returns : tie.Need-returns-in_default
 returns c =
-    let setting = c.before.before.before.args.setting in
-    let b = c.before.before.before.args.band in
-    let none = refused-of (has_band setting b) (bin_range setting b) 12 _ (sym (ap band_bins_outcome c.enum_told.given.1) ∙ c.before.before.bins-of-band.ensures) in
+    let setting = c.args.setting in
+    let b = c.args.band in
+    let none = refused-of (has_band setting b) (bin_range setting b) 12 _ (sym (ap band_bins_outcome c.in_default.is) ∙ c.bins_of_band-found.ensures) in
     answered setting b _ (rw none.0)
 
 -- where bins are found, the setting has the band, and the bins are the band's
-module _ (c : tie.After-found) where
+module _ (c : tie.In-Bins) where
   bins : BinRange
-  bins = c.found.given.0.0
+  bins = c.in-Bins.bins
 
-  found : (has_band c.before.before.before.args.setting c.before.before.before.args.band ≡ true)
-      × (bins ≡ bin_range c.before.before.before.args.setting c.before.before.before.args.band)
+  found : (has_band c.args.setting c.args.band ≡ true)
+      × (bins ≡ bin_range c.args.setting c.args.band)
   unfolding bins
   found =
-      given-of _ (bin_range c.before.before.before.args.setting c.before.before.before.args.band) bins 12
-      (sym (ap band_bins_outcome c.found.given.1) ∙ c.before.before.bins-of-band.ensures)
+      given-of _ (bin_range c.args.setting c.args.band) bins 12
+      (sym (ap band_bins_outcome c.in-Bins.is) ∙ c.bins_of_band-found.ensures)
 
   within : bins.start + bins.width ≤ 1024
   within =
@@ -57,44 +57,44 @@ module _ (c : tie.After-found) where
         arith,
         ap (λ (r : BinRange). r.start) found.1,
         ap (λ (r : BinRange). r.width) found.1,
-        (range _ _ (known_of c.before.before.before.args.setting c.before.before.before.args.band found.0)).within,
+        (range _ _ (known_of c.args.setting c.args.band found.0)).within,
       )
 
-mul_low : tie.Need-overflow-mul-low
+mul_low : tie.Need-overflow_mul-low
 unfolding bins
-mul_low c = omega (arith, within c.before.before)
+mul_low c = omega (arith, within c.before)
 
-mul-width : tie.Need-overflow-mul-width
+mul-width : tie.Need-overflow_mul-width
 unfolding bins
-mul-width c = omega (arith, within c.before.before.before)
+mul-width c = omega (arith, within c.before.before)
 
-add-centre : tie.Need-overflow-add-centre
+add-centre : tie.Need-overflow_add-centre
 unfolding bins
-add-centre c = omega (arith, within c.before.before.before)
+add-centre c = omega (arith, within c.before.before)
 
-int-to-float-t10 : tie.Need-int-to-float-t10
+int-to-float-t10 : tie.Need-int_to_float-result
 int-to-float-t10 c = search rules
 
-int-to-float-t11 : tie.Need-int-to-float-t11
+int-to-float-t11 : tie.Need-int_to_float-result-2
 int-to-float-t11 c = search rules
 
-int-to-float-t12 : tie.Need-int-to-float-t12
+int-to-float-t12 : tie.Need-int_to_float-result-3
 int-to-float-t12 c = search rules
 
 -- what the code makes of the bins
 computed : BinRange → Description
 computed r = record { low = whole (8 * r.start); centre = whole (8 * r.start + 8 * r.width / 2); width = whole (8 * r.width) }
 
-returns-2 : tie.Need-returns-2
+returns-2 : tie.Need-returns
 unfolding whole computed bins
 returns-2 c =
-    let at = c.before.before.before.before.before.before in
-    let setting = at.before.before.before.args.setting in
-    let b = at.before.before.before.args.band in
+    let at = c.before.before.before.before.before in
+    let setting = at.args.setting in
+    let b = at.args.band in
     answered setting b (BandDescription.Described (computed (bins at))) (rw (found at).0 (ap given (ap computed (found at).1)))
 
-pub describe-band-spec : {M : Type 1} → statement M
-describe-band-spec =
+pub describe_band_spec : {M : Type 1} → statement M
+describe_band_spec =
     tie.close
     (tie.spec
     bins-of-band-requires

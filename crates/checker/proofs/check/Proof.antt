@@ -22,10 +22,10 @@ use Rattle.checker.proofs.Steps.{step-without, step-refused, step_kept, from_nex
 use Rattle.checker.proofs.check.Statement.{statement}
 use Rattle.checker.proofs.check.Tie as tie
 
-abbrev invariant-loop : tie.invariant-loop
+abbrev invariant-loop : tie.invariant-loop-entry
 invariant-loop log at₀ second₀ registers₀ at second registers = check_from log at (record { second = second; registers = registers }) ≡ commands_checked log
 
-abbrev decreases-loop : tie.decreases-loop
+abbrev decreases-loop : tie.decreases-loop-entry
 decreases-loop log at₀ second₀ registers₀ at second registers = length log - at
 
 -- a command that was read has the ID of a register
@@ -40,135 +40,124 @@ altered s r d f t = ap (check_record s) f ∙ simp t
 kept : (s : Standing) (r : Record) (d : Command) → r ≡ Record.Command d → stores_sent d ≡ true → check_record s r ≡ given tt
 kept s r d f t = ap (check_record s) f ∙ simp t
 
-loop-holds : tie.Need-loop-init invariant-loop decreases-loop
+loop-holds : tie.Need-loop-entry-init invariant-loop decreases-loop
 unfolding commands_checked
-loop-holds c = ap (λ (r : Registers). check_from c.before.before.args.log.now 0 (record { second = 0; registers = r })) c.reset.ensures
+loop-holds c = ap (λ (r : Registers). check_from c.args.log.now 0 (record { second = 0; registers = r })) c.reset-registers.ensures
 
-returns : tie.Need-returns invariant-loop decreases-loop
+returns : tie.Need-returns-in_default invariant-loop decreases-loop
 returns c =
-    let log = c.before.before.before.before.before.before.args.log.now in
-    let l = c.before.before.before.loop in
+    let log = c.args.log.now in
+    let l = c.loop-entry in
     let s : Standing = record { second = l.second; registers = l.registers } in
-    let q = c.before.before.read_at in
-    ap (λ (j : Judged). record { judged = j; registers = l.registers }) c.judgement-without-record.ensures
-    ∙ sym (from_last log l.at s _ (ap (λ (o : Outcome Found). read_step o l.at s) (sym q.ensures) ∙ step-without l.at s q.result c.before.match.keys2))
+    let q = c.read_at-read in
+    ap (λ (j : Judged). record { judged = j; registers = l.registers }) c.judgement_without_record.ensures
+    ∙ sym (from_last log l.at s _ (ap (λ (o : Outcome Found). read_step o l.at s) (sym q.ensures) ∙ step-without l.at s q.result c.in_default.in_default-own.keys2))
     ∙ l.invariant
 
-stores-sent-requires : tie.Need-stores-sent-requires invariant-loop decreases-loop
+stores-sent-requires : tie.Need-stores_sent-requires invariant-loop decreases-loop
 stores-sent-requires c κs =
-    let log = c.before.before.before.before.before.before.before.before.before.before.args.log.now in
-    let l = c.before.before.before.before.before.before.before.loop in
+    let log = c.args.log.now in
+    let l = c.loop-entry in
     let s : Standing = record { second = l.second; registers = l.registers } in
-    let r = c.before.before.before.before.read.given.0 in
-    let e = sym c.before.before.before.before.before.before.read_at.ensures ∙ ap read_outcome c.before.before.before.before.read.given.1 in
-    known log l.at r.0 r.1.0 _ e c.before.entry.given.1
+    let e = sym c.read_at-read.ensures ∙ ap read_outcome c.in-Record.is in
+    known log l.at c.in-Record.entry c.in-Record.after _ e c.in-Command.is
 
-returns-2 : tie.Need-returns-2 invariant-loop decreases-loop
+returns-2 : tie.Need-returns-then-not-stores_sent invariant-loop decreases-loop
 returns-2 c =
-    let log = c.before.before.before.before.before.before.before.before.before.before.before.before.args.log.now in
-    let l = c.before.before.before.before.before.before.before.before.before.loop in
+    let log = c.args.log.now in
+    let l = c.loop-entry in
     let s : Standing = record { second = l.second; registers = l.registers } in
-    let r = c.before.before.before.before.before.before.read.given.0 in
-    let e = sym c.before.before.before.before.before.before.before.before.read_at.ensures ∙ ap read_outcome c.before.before.before.before.before.before.read.given.1 in
-    let t = sym c.before.stores-sent.ensures ∙ not-true _ c.if1.true in
-    sym (from_last log l.at s _ (step-refused log l.at s r.0 r.1.0 e 20 (altered s r.0 _ c.before.before.before.entry.given.1 t))) ∙ l.invariant
+    let e = sym c.read_at-read.ensures ∙ ap read_outcome c.in-Record.is in
+    let t = sym c.stores_sent.ensures ∙ not-true _ c.if-not-stores_sent.true-raw in
+    sym (from_last log l.at s _ (step-refused log l.at s c.in-Record.entry c.in-Record.after e 20 (altered s c.in-Record.entry _ c.in-Command.is t))) ∙ l.invariant
 
-sub-registers : tie.Need-overflow-sub-registers invariant-loop decreases-loop
+sub-registers : tie.Need-overflow_sub-registers invariant-loop decreases-loop
 sub-registers c =
-    let log = c.before.before.before.before.before.before.before.before.before.before.before.before.before.args.log.now in
-    let l = c.before.before.before.before.before.before.before.before.before.before.loop in
+    let log = c.args.log.now in
+    let l = c.loop-entry in
     let s : Standing = record { second = l.second; registers = l.registers } in
-    let r = c.before.before.before.before.before.before.before.read.given.0 in
-    let e = sym c.before.before.before.before.before.before.before.before.before.read_at.ensures ∙ ap read_outcome c.before.before.before.before.before.before.before.read.given.1 in
-    omega (arith, id_range c.before.before.before.before.entry.given.0.0.id (known log l.at r.0 r.1.0 _ e c.before.before.before.before.entry.given.1))
+    let e = sym c.read_at-read.ensures ∙ ap read_outcome c.in-Record.is in
+    omega (arith, id_range c.in-Command.command.id (known log l.at c.in-Record.entry c.in-Record.after _ e c.in-Command.is))
 
-element-write-registers : tie.Need-element-write-registers invariant-loop decreases-loop
+element-write-registers : tie.Need-bounds-registers-command invariant-loop decreases-loop
 element-write-registers c =
-    let log = c.before.before.before.before.before.before.before.before.before.before.before.before.before.args.log.now in
-    let l = c.before.before.before.before.before.before.before.before.before.before.loop in
+    let log = c.args.log.now in
+    let l = c.loop-entry in
     let s : Standing = record { second = l.second; registers = l.registers } in
-    let r = c.before.before.before.before.before.before.before.read.given.0 in
-    let e = sym c.before.before.before.before.before.before.before.before.before.read_at.ensures ∙ ap read_outcome c.before.before.before.before.before.before.before.read.given.1 in
-    omega (arith, id_range c.before.before.before.before.entry.given.0.0.id (known log l.at r.0 r.1.0 _ e c.before.before.before.before.entry.given.1))
+    let e = sym c.read_at-read.ensures ∙ ap read_outcome c.in-Record.is in
+    omega (arith, id_range c.in-Command.command.id (known log l.at c.in-Record.entry c.in-Record.after _ e c.in-Command.is))
 
-returns-3 : tie.Need-returns-3 invariant-loop decreases-loop
+returns-3 : tie.Need-returns-in-Refused invariant-loop decreases-loop
 returns-3 c =
-    let log = c.before.before.before.before.before.before.before.before.before.before.before.before.before.before.args.log.now in
-    let l = c.before.before.before.before.before.before.before.before.before.before.before.loop in
+    let log = c.args.log.now in
+    let l = c.loop-entry in
     let s : Standing = record { second = l.second; registers = l.registers } in
-    let r = c.before.before.before.before.before.before.before.before.read.given.0 in
-    let e = sym c.before.before.before.before.before.before.before.before.before.before.read_at.ensures ∙ ap read_outcome c.before.before.before.before.before.before.before.before.read.given.1 in
-    let n = sym c.before.before.before.check-mark.ensures ∙ ap allowed_outcome c.before.allowed.given.1 in
-    sym (from_last log l.at s _ (step-refused log l.at s r.0 r.1.0 e _ (ap (check_record s) c.before.before.before.before.before.entry2.given.1 ∙ n))) ∙ l.invariant
+    let e = sym c.read_at-read.ensures ∙ ap read_outcome c.in-Record.is in
+    let n = sym c.check_mark-allowed.ensures ∙ ap allowed_outcome c.in-Refused.is in
+    sym (from_last log l.at s _ (step-refused log l.at s c.in-Record.entry c.in-Record.after e _ (ap (check_record s) c.in-SecondMark.is ∙ n))) ∙ l.invariant
 
-returns-4 : tie.Need-returns-4 invariant-loop decreases-loop
+returns-4 : tie.Need-returns-in-Word invariant-loop decreases-loop
 returns-4 c =
-    let log = c.before.before.before.before.before.before.before.before.before.args.log.now in
-    let l = c.before.before.before.before.before.before.loop in
+    let log = c.args.log.now in
+    let l = c.loop-entry in
     let s : Standing = record { second = l.second; registers = l.registers } in
-    let r = c.before.before.before.read.given.0 in
-    let e = sym c.before.before.before.before.before.read_at.ensures ∙ ap read_outcome c.before.before.before.read.given.1 in
-    sym (from_last log l.at s _ (step-refused log l.at s r.0 r.1.0 e 18 (ap (check_record s) c.enum-told2.given.1))) ∙ l.invariant
+    let e = sym c.read_at-read.ensures ∙ ap read_outcome c.in-Record.is in
+    sym (from_last log l.at s _ (step-refused log l.at s c.in-Record.entry c.in-Record.after e 18 (ap (check_record s) c.in-Word.is))) ∙ l.invariant
 
-returns-5 : tie.Need-returns-5 invariant-loop decreases-loop
+returns-5 : tie.Need-returns-in-Tick invariant-loop decreases-loop
 returns-5 c =
-    let log = c.before.before.before.before.before.before.before.before.before.args.log.now in
-    let l = c.before.before.before.before.before.before.loop in
+    let log = c.args.log.now in
+    let l = c.loop-entry in
     let s : Standing = record { second = l.second; registers = l.registers } in
-    let r = c.before.before.before.read.given.0 in
-    let e = sym c.before.before.before.before.before.read_at.ensures ∙ ap read_outcome c.before.before.before.read.given.1 in
-    sym (from_last log l.at s _ (step-refused log l.at s r.0 r.1.0 e 18 (ap (check_record s) c.enum-told3.given.1))) ∙ l.invariant
+    let e = sym c.read_at-read.ensures ∙ ap read_outcome c.in-Record.is in
+    sym (from_last log l.at s _ (step-refused log l.at s c.in-Record.entry c.in-Record.after e 18 (ap (check_record s) c.in-Tick.is))) ∙ l.invariant
 
-loop-less : tie.Need-loop-smaller invariant-loop decreases-loop
+loop-less : tie.Need-loop-entry-smaller-else-not-stores_sent invariant-loop decreases-loop
 loop-less c =
-    let log = c.before.before.before.before.before.before.before.before.before.before.before.before.before.args.log.now in
-    let l = c.before.before.before.before.before.before.before.before.before.before.loop in
+    let log = c.args.log.now in
+    let l = c.loop-entry in
     let s : Standing = record { second = l.second; registers = l.registers } in
-    let r = c.before.before.before.before.before.before.before.read.given.0 in
-    let e = sym c.before.before.before.before.before.before.before.before.before.read_at.ensures ∙ ap read_outcome c.before.before.before.before.before.before.before.read.given.1 in
-    let f = found-parts log l.at r.0 r.1.0 e in
+    let e = sym c.read_at-read.ensures ∙ ap read_outcome c.in-Record.is in
+    let f = found-parts log l.at c.in-Record.entry c.in-Record.after e in
     omega (arith, f.forward, f.within)
 
-loop-less-2 : tie.Need-loop-smaller-2 invariant-loop decreases-loop
+loop-less-2 : tie.Need-loop-entry-smaller invariant-loop decreases-loop
 loop-less-2 c =
-    let log = c.before.before.before.before.before.before.before.before.before.before.before.before.before.args.log.now in
-    let l = c.before.before.before.before.before.before.before.before.before.before.loop in
+    let log = c.args.log.now in
+    let l = c.loop-entry in
     let s : Standing = record { second = l.second; registers = l.registers } in
-    let r = c.before.before.before.before.before.before.before.read.given.0 in
-    let e = sym c.before.before.before.before.before.before.before.before.before.read_at.ensures ∙ ap read_outcome c.before.before.before.before.before.before.before.read.given.1 in
-    let f = found-parts log l.at r.0 r.1.0 e in
+    let e = sym c.read_at-read.ensures ∙ ap read_outcome c.in-Record.is in
+    let f = found-parts log l.at c.in-Record.entry c.in-Record.after e in
     omega (arith, f.forward, f.within)
 
-loop-again : tie.Need-loop-preserved invariant-loop decreases-loop
+loop-again : tie.Need-loop-entry-preserved-else-not-stores_sent invariant-loop decreases-loop
 loop-again c =
-    let log = c.before.before.before.before.before.before.before.before.before.before.before.before.before.args.log.now in
-    let l = c.before.before.before.before.before.before.before.before.before.before.loop in
+    let log = c.args.log.now in
+    let l = c.loop-entry in
     let s : Standing = record { second = l.second; registers = l.registers } in
-    let r = c.before.before.before.before.before.before.before.read.given.0 in
-    let e = sym c.before.before.before.before.before.before.before.before.before.read_at.ensures ∙ ap read_outcome c.before.before.before.before.before.before.before.read.given.1 in
-    let d = c.before.before.before.before.entry.given.0.0 in
-    let f = c.before.before.before.before.entry.given.1 in
-    let t = sym c.before.before.stores-sent.ensures ∙ not-false _ c.before.if1.false in
-    ap (λ (v : ℕ). check_from log r.1.0 (record { second = l.second; registers = record { value = set l.registers.value (d.id - 0x30) v } })) (sym (eqb-true _ _ t))
-    ∙ ap (check_from log r.1.0) (sym (ap (after_record s) f))
-    ∙ sym (from_next log l.at s r.1.0 (after_record s r.0) (step_kept log l.at s r.0 r.1.0 e (kept s r.0 d f t)))
+    let e = sym c.read_at-read.ensures ∙ ap read_outcome c.in-Record.is in
+    let d = c.in-Command.command in
+    let f = c.in-Command.is in
+    let t = sym c.stores_sent.ensures ∙ not-false _ c.if-not-stores_sent.false-raw in
+    ap (λ (v : ℕ). check_from log c.in-Record.after (record { second = l.second; registers = record { value = set l.registers.value (d.id - 0x30) v } })) (sym (eqb-true _ _ t))
+    ∙ ap (check_from log c.in-Record.after) (sym (ap (after_record s) f))
+    ∙ sym (from_next log l.at s c.in-Record.after (after_record s c.in-Record.entry) (step_kept log l.at s c.in-Record.entry c.in-Record.after e (kept s c.in-Record.entry d f t)))
     ∙ l.invariant
 
-loop-again-2 : tie.Need-loop-preserved-2 invariant-loop decreases-loop
+loop-again-2 : tie.Need-loop-entry-preserved invariant-loop decreases-loop
 loop-again-2 c =
-    let log = c.before.before.before.before.before.before.before.before.before.before.before.before.before.args.log.now in
-    let l = c.before.before.before.before.before.before.before.before.before.before.loop in
+    let log = c.args.log.now in
+    let l = c.loop-entry in
     let s : Standing = record { second = l.second; registers = l.registers } in
-    let r = c.before.before.before.before.before.before.before.read.given.0 in
-    let e = sym c.before.before.before.before.before.before.before.before.before.read_at.ensures ∙ ap read_outcome c.before.before.before.before.before.before.before.read.given.1 in
-    let f = c.before.before.before.before.entry2.given.1 in
-    let k = sym c.before.before.check-mark.ensures ∙ ap allowed_outcome c.enum_told.given.1 in
-    ap (check_from log r.1.0) (sym (ap (after_record s) f))
-    ∙ sym (from_next log l.at s r.1.0 (after_record s r.0) (step_kept log l.at s r.0 r.1.0 e (ap (check_record s) f ∙ k)))
+    let e = sym c.read_at-read.ensures ∙ ap read_outcome c.in-Record.is in
+    let f = c.in-SecondMark.is in
+    let k = sym c.check_mark-allowed.ensures ∙ ap allowed_outcome c.in_default-allowed.is in
+    ap (check_from log c.in-Record.after) (sym (ap (after_record s) f))
+    ∙ sym (from_next log l.at s c.in-Record.after (after_record s c.in-Record.entry) (step_kept log l.at s c.in-Record.entry c.in-Record.after e (ap (check_record s) f ∙ k)))
     ∙ l.invariant
 
-pub check-spec : {M : Type 1} → statement M
-check-spec =
+pub check_spec : {M : Type 1} → statement M
+check_spec =
     tie.close
     (tie.spec
     invariant-loop

@@ -4,11 +4,11 @@ use borrow.Author.Rules.{rules}
 use Rattle.checker.proofs.end_judgement.Statement.{statement}
 use Rattle.checker.proofs.end_judgement.Tie as tie
 
-returns : tie.Need-returns
-returns c = simp (sym c.before.is-within-period.ensures ∙ c.if1.true)
+returns : tie.Need-returns-then-is_within_period
+returns c = simp (sym c.is_within_period.ensures ∙ c.if-is_within_period.true)
 
-returns-2 : tie.Need-returns-2
-returns-2 c = simp (sym c.before.is-within-period.ensures ∙ c.if1.false)
+returns-2 : tie.Need-returns-else-is_within_period
+returns-2 c = simp (sym c.is_within_period.ensures ∙ c.if-is_within_period.false)
 
-pub end-judgement-spec : {M : Type 1} → statement M
-end-judgement-spec = tie.close (tie.spec (λ c κs. search rules) returns returns-2)
+pub end_judgement_spec : {M : Type 1} → statement M
+end_judgement_spec = tie.close (tie.spec (λ c κs. search rules) returns returns-2)

@@ -10,18 +10,18 @@ use Rattle.checker.specs.Private.{judgement_without_record}
 use Rattle.checker.proofs.judgement_without_record.Statement.{statement}
 use Rattle.checker.proofs.judgement_without_record.Tie as tie
 
-returns : tie.Need-returns
+returns : tie.Need-returns-in-Refused
 returns c =
-    let a = c.before.before.before.before.args in
-    ap (λ (n : ℕ). refused_at n a.at) c.refusal-of-read.ensures
-    ∙ sym (ap (λ (q : Read). judgement_without_record (read_outcome q) a.registers a.at) c.before.before.read.given.1)
+    let a = c.args in
+    ap (λ (n : ℕ). refused_at n a.at) c.refusal_of_read.ensures
+    ∙ sym (ap (λ (q : Read). judgement_without_record (read_outcome q) a.registers a.at) c.in-Refused.is)
 
-returns-2 : tie.Need-returns-2
+returns-2 : tie.Need-returns-in_default
 returns-2 c =
-    let a = c.before.before.args in
-    c.end-judgement.ensures
-    ∙ without-refusal (λ o. end_judgement a.registers a.at ≡ judgement_without_record o a.registers a.at) (λ r next. refl) refl a.read c.before.match.keys2
+    let a = c.args in
+    c.end_judgement.ensures
+    ∙ without-refusal (λ o. end_judgement a.registers a.at ≡ judgement_without_record o a.registers a.at) (λ r next. refl) refl a.read c.in_default.in_default-own.keys2
 
-pub judgement-without-record-spec : {M : Type 1} → statement M
-judgement-without-record-spec =
+pub judgement_without_record_spec : {M : Type 1} → statement M
+judgement_without_record_spec =
     tie.close (tie.spec (λ c. search rules) (λ c κs. search rules) (λ c κs. search rules) returns returns-2)

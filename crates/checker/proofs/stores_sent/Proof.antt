@@ -8,11 +8,11 @@ use Rattle.registers.proofs.Laws.{id_range}
 use Rattle.checker.proofs.stores_sent.Statement.{statement}
 use Rattle.checker.proofs.stores_sent.Tie as tie
 
-sub-n : tie.Need-overflow-sub-n
-sub-n c = omega (arith, id_range c.before.args.command.id c.before.requires)
+sub-n : tie.Need-overflow_sub-n
+sub-n c = omega (arith, id_range c.args.command.id c.requires)
 
 returns : tie.Need-returns
-returns c = ap (λ (v : ℕ). eqb v c.before.before.before.args.command.information) c.before.stored_at.ensures
+returns c = ap (λ (v : ℕ). eqb v c.args.command.information) c.stored_at.ensures
 
-pub stores-sent-spec : {M : Type 1} → statement M
-stores-sent-spec = tie.close (tie.spec sub-n (λ c. search rules) (λ c κs. search rules) returns)
+pub stores_sent_spec : {M : Type 1} → statement M
+stores_sent_spec = tie.close (tie.spec sub-n (λ c. search rules) (λ c κs. search rules) returns)

@@ -13,19 +13,19 @@ use borrow.Author.Rules.{rules}
 use Rattle.limits.proofs.all_within.Statement.{statement}
 use Rattle.limits.proofs.all_within.Tie as tie
 
-abbrev invariant-loop : tie.invariant-loop
+abbrev invariant-loop : tie.invariant-loop-i
 invariant-loop totals limits within₀ i₀ i-end within i = (i ≤ length totals) × (i-end ≡ length totals) × (within ≡ all_to i (λ k. leb (get_or totals k 0) (get_or limits k 0)))
 
-abbrev decreases-loop : tie.decreases-loop
+abbrev decreases-loop : tie.decreases-loop-i
 decreases-loop totals limits within₀ i₀ i-end within i = i-end - i
 
-loop-holds : tie.Need-loop-init invariant-loop decreases-loop
+loop-holds : tie.Need-loop-i-init invariant-loop decreases-loop
 loop-holds c = (search rules, refl, sym (all_to-none _))
 
-loop-again : tie.Need-loop-preserved invariant-loop decreases-loop
+loop-again : tie.Need-loop-i-preserved invariant-loop decreases-loop
 loop-again c =
-    let l = c.before.before.before.loop in
-    let a = c.before.before.before.before.args in (
+    let l = c.loop-i in
+    let a = c.args in (
       search rules,
       search rules,
       ap (λ (t : Bool). t && leb (get_or a.totals.now l.i 0) (get_or a.limits.now l.i 0)) l.invariant.2
@@ -35,11 +35,11 @@ loop-again c =
 returns : tie.Need-returns invariant-loop decreases-loop
 unfolding all_within
 returns c =
-    let e : c.before.loop.i ≡ length c.before.before.args.totals.now = omega arith in
-    rw (← e) c.before.loop.invariant.2
+    let e : c.loop-i.i ≡ length c.args.totals.now = omega arith in
+    rw (← e) c.loop-i.invariant.2
 
-pub all-within-spec : {M : Type 1} → statement M
-all-within-spec =
+pub all_within_spec : {M : Type 1} → statement M
+all_within_spec =
     tie.close
     (tie.spec
     invariant-loop

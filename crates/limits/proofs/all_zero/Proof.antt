@@ -12,27 +12,27 @@ use borrow.Author.Rules.{rules}
 use Rattle.limits.proofs.all_zero.Statement.{statement}
 use Rattle.limits.proofs.all_zero.Tie as tie
 
-abbrev invariant-loop : tie.invariant-loop
+abbrev invariant-loop : tie.invariant-loop-i
 invariant-loop totals bits₀ i₀ i-end bits i = (i ≤ length totals) × (i-end ≡ length totals) × (leb bits 0 ≡ all_to i (λ k. leb (get_or totals k 0) 0))
 
-abbrev decreases-loop : tie.decreases-loop
+abbrev decreases-loop : tie.decreases-loop-i
 decreases-loop totals bits₀ i₀ i-end bits i = i-end - i
 
-loop-holds : tie.Need-loop-init invariant-loop decreases-loop
+loop-holds : tie.Need-loop-i-init invariant-loop decreases-loop
 loop-holds c = (search rules, refl, sym (all_to-none _))
 
-loop-again : tie.Need-loop-preserved invariant-loop decreases-loop
+loop-again : tie.Need-loop-i-preserved invariant-loop decreases-loop
 loop-again c =
-    let l = c.before.before.loop in
-    (search rules, search rules, zero_more c.before.before.before.args.totals.now l.bits l.i l.invariant.2)
+    let l = c.loop-i in
+    (search rules, search rules, zero_more c.args.totals.now l.bits l.i l.invariant.2)
 
 returns : tie.Need-returns invariant-loop decreases-loop
 unfolding all_zero
 returns c =
-    let e : c.before.loop.i ≡ length c.before.before.args.totals.now = omega arith in
-    rw (← e) (eqb-leb c.before.loop.bits ∙ c.before.loop.invariant.2)
+    let e : c.loop-i.i ≡ length c.args.totals.now = omega arith in
+    rw (← e) (eqb-leb c.loop-i.bits ∙ c.loop-i.invariant.2)
 
-pub all-zero-spec : {M : Type 1} → statement M
-all-zero-spec =
+pub all_zero_spec : {M : Type 1} → statement M
+all_zero_spec =
     tie.close
     (tie.spec invariant-loop decreases-loop loop-holds (λ c. search rules) (λ c. search rules) (λ c. search rules) (λ c. search rules) loop-again returns)

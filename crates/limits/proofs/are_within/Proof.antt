@@ -12,32 +12,32 @@ use borrow.Author.Rules.{rules}
 use Rattle.limits.proofs.are_within.Statement.{statement}
 use Rattle.limits.proofs.are_within.Tie as tie
 
-returns : tie.Need-returns
+returns : tie.Need-returns-then-spectra-eq0
 returns c =
-    let a = c.before.before.before.args in
-    c.all-zero.ensures ∙ zero-slots a.registers a.totals.now c.before.before.before.requires
-    ∙ ap (λ (m : ℕ). totals_within a.registers m a.totals.now) (sym c.before.if1.true)
+    let a = c.args in
+    c.all_zero.ensures ∙ zero-slots a.registers a.totals.now c.requires
+    ∙ ap (λ (m : ℕ). totals_within a.registers m a.totals.now) (sym c.if-spectra-eq0.true)
 
-double-octaves-requires : tie.Need-double-octaves-requires
+double-octaves-requires : tie.Need-double_octaves-requires
 double-octaves-requires c κs =
-    let a = c.before.before.before.before.before.args in (
-      subst (λ (x : ℕ). x ≤ 2) (sym c.bin-setting.ensures) (setting-le a.registers),
-      (c.before.before.bands.ensures ∙ ap band_count (sym c.bin-setting.ensures), (search rules, ap (λ (x : ℕ). replicate {A = ℕ} 112 x) (omega arith))),
+    let a = c.args in (
+      subst (λ (x : ℕ). x ≤ 2) (sym c.bin_setting.ensures) (setting-le a.registers),
+      (c.bands-bands.ensures ∙ ap band_count (sym c.bin_setting.ensures), (search rules, ap (λ (x : ℕ). replicate {A = ℕ} 112 x) (omega arith))),
     )
 
-rows-within-requires : tie.Need-rows-within-requires
-rows-within-requires c κs = (c.before.before.before.before.before.bands.ensures, (c.before.before.double-octaves.ensures.limits-length, c.before.before.before.before.before.before.before.before.requires))
+rows-within-requires : tie.Need-rows_within-requires
+rows-within-requires c κs = (c.bands-bands.ensures, (c.double_octaves.ensures.limits-length, c.requires))
 
-returns-2 : tie.Need-returns-2
+returns-2 : tie.Need-returns
 returns-2 c =
-    let a = c.before.before.before.before.before.before.before.before.before.args in
-    let l = c.before.before.before.double-octaves in
-    c.rows-within.ensures
-    ∙ limited-slots a.registers a.spectra l.new.0 a.totals.now
-    (subst (λ (x : ℕ). Limits x a.spectra l.new.0) c.before.before.before.before.bin-setting.ensures l.ensures)
+    let a = c.args in
+    let l = c.double_octaves in
+    c.rows_within.ensures
+    ∙ limited-slots a.registers a.spectra l.new.limits a.totals.now
+    (subst (λ (x : ℕ). Limits x a.spectra l.new.limits) c.bin_setting.ensures l.ensures)
 
-pub are-within-spec : {M : Type 1} → statement M
-are-within-spec =
+pub are_within_spec : {M : Type 1} → statement M
+are_within_spec =
     tie.close
     (tie.spec
     (λ c κs. search rules)

@@ -13,16 +13,16 @@ use borrow.Author.Rules.{rules}
 use Rattle.limits.proofs.double_octaves.Statement.{statement}
 use Rattle.limits.proofs.double_octaves.Tie as tie
 
-abbrev invariant-loop : tie.invariant-loop
+abbrev invariant-loop : tie.invariant-loop-b
 invariant-loop limits₀ setting bands spectra size b₀ limits b = (2 * size ≤ b) × (b ≤ bands) × (length limits ≡ 112) × ((i : ℕ) → i < b → get_or limits i 0 ≡ band_limit setting spectra i)
 
-abbrev decreases-loop : tie.decreases-loop
+abbrev decreases-loop : tie.decreases-loop-b
 decreases-loop limits₀ setting bands spectra size b₀ limits b = bands - b
 
-mul-b : tie.Need-overflow-mul-b invariant-loop decreases-loop
+mul-b : tie.Need-overflow_step-b invariant-loop decreases-loop
 mul-b c = omega (arith, shifted-size c.args.setting c.requires.0, narrow-le c.args.setting c.requires.0, (bands-count c.args.setting).at_most)
 
-loop-holds : tie.Need-loop-init invariant-loop decreases-loop
+loop-holds : tie.Need-loop-b-init invariant-loop decreases-loop
 loop-holds c =
     let a = c.args in
     let p = c.requires in
@@ -33,38 +33,38 @@ loop-holds c =
       λ i h. limits-first a.setting a.spectra p.0 a.limits.now p.1.1.1 i (omega arith),
     )
 
-sub-half : tie.Need-overflow-sub-half invariant-loop decreases-loop
+sub-half : tie.Need-overflow_sub-half invariant-loop decreases-loop
 sub-half c = omega arith
 
-mul-half : tie.Need-overflow-mul-half invariant-loop decreases-loop
-mul-half c = omega (arith, (bands-count c.before.before.args.setting).at_most)
+mul-half : tie.Need-offset_bounds-limits-b invariant-loop decreases-loop
+mul-half c = omega (arith, (bands-count c.args.setting).at_most)
 
-slice-read-half : tie.Need-slice-read-half invariant-loop decreases-loop
-slice-read-half c = omega (arith, (bands-count c.before.before.before.args.setting).at_most)
+slice-read-half : tie.Need-bounds-limits-b invariant-loop decreases-loop
+slice-read-half c = omega (arith, (bands-count c.args.setting).at_most)
 
 -- the half is the limit of an earlier band
-add-limits : tie.Need-overflow-add-limits invariant-loop decreases-loop
+add-limits : tie.Need-overflow_add-limits invariant-loop decreases-loop
 add-limits c =
-    let a = c.before.before.before.args in
-    let p = c.before.before.before.requires in
-    let l = c.before.before.loop in
+    let a = c.args in
+    let p = c.requires in
+    let l = c.loop-b in
     let is : get_or l.limits (l.b - shifted_size a.setting) 0 ≡ band_limit a.setting a.spectra (l.b - shifted_size a.setting) = l.invariant.3 (l.b - shifted_size a.setting) (omega (arith, shifted-size a.setting p.0, pow_pos (size_exponent a.setting))) in
     omega (arith, limit-le a.setting a.spectra p.1.1.0 (l.b - shifted_size a.setting) (omega arith))
 
-mul-limits : tie.Need-overflow-mul-limits invariant-loop decreases-loop
-mul-limits c = omega (arith, (bands-count c.before.before.before.args.setting).at_most)
+mul-limits : tie.Need-offset_bounds-limits-b-in-loop-b invariant-loop decreases-loop
+mul-limits c = omega (arith, (bands-count c.args.setting).at_most)
 
-slice-write-limits : tie.Need-slice-write-limits invariant-loop decreases-loop
-slice-write-limits c = omega (arith, (bands-count c.before.before.before.args.setting).at_most)
+slice-write-limits : tie.Need-bounds-limits-b-in-loop-b invariant-loop decreases-loop
+slice-write-limits c = omega (arith, (bands-count c.args.setting).at_most)
 
-add-b : tie.Need-overflow-add-b invariant-loop decreases-loop
-add-b c = omega (arith, (bands-count c.before.before.before.args.setting).at_most)
+add-b : tie.Need-overflow_step-b-in-loop-b invariant-loop decreases-loop
+add-b c = omega (arith, (bands-count c.args.setting).at_most)
 
-loop-again : tie.Need-loop-preserved invariant-loop decreases-loop
+loop-again : tie.Need-loop-b-preserved invariant-loop decreases-loop
 loop-again c =
-    let a = c.before.before.before.args in
-    let l = c.before.before.loop in
-    let s = shifted-size a.setting c.before.before.before.requires.0 in (
+    let a = c.args in
+    let l = c.loop-b in
+    let s = shifted-size a.setting c.requires.0 in (
       omega arith,
       omega arith,
       simp length-set l.invariant.2,
@@ -72,16 +72,16 @@ loop-again c =
           (omega (arith, (bands-count a.setting).at_most)) l.invariant.3 (ap (λ (k : ℕ). get_or l.limits (l.b - k) 0) s) (pow_pos (size_exponent a.setting)),
     )
 
-same_length : tie.Need-same-length invariant-loop decreases-loop
-same_length c = c.before.loop.invariant.2 ∙ sym (ap length c.before.before.requires.1.1.1 ∙ length-replicate {A = ℕ} 112 (c.before.before.args.spectra * (2 ^ 32 - 1)))
+same_length : tie.Need-shape_of-limits invariant-loop decreases-loop
+same_length c = c.loop-b.invariant.2 ∙ sym (ap length c.requires.1.1.1 ∙ length-replicate {A = ℕ} 112 (c.args.spectra * (2 ^ 32 - 1)))
 
 returns : tie.Need-returns invariant-loop decreases-loop
 returns c =
-    let l = c.before.loop in
+    let l = c.loop-b in
     record { limits-length = l.invariant.2; limit = λ b h. l.invariant.3 b (omega arith) }
 
-pub double-octaves-spec : {M : Type 1} → statement M
-double-octaves-spec =
+pub double_octaves_spec : {M : Type 1} → statement M
+double_octaves_spec =
     tie.close
     (tie.spec
     invariant-loop

@@ -17,38 +17,38 @@ use borrow.Author.Rules.{rules}
 use Rattle.limits.proofs.rows_within.Statement.{statement}
 use Rattle.limits.proofs.rows_within.Tie as tie
 
-abbrev invariant-loop : tie.invariant-loop
+abbrev invariant-loop : tie.invariant-loop-n
 invariant-loop registers bands limits totals within₀ n₀ within n = (n ≤ 7) × (within ≡ all_to n (λ n. all_to 112 (λ b. leb (slot totals n b) (cond (in_use registers n b) (get_or limits b 0) 0))))
 
-abbrev decreases-loop : tie.decreases-loop
+abbrev decreases-loop : tie.decreases-loop-n
 decreases-loop registers bands limits totals within₀ n₀ within n = 7 - n
 
-loop-holds : tie.Need-loop-init invariant-loop decreases-loop
+loop-holds : tie.Need-loop-n-init invariant-loop decreases-loop
 loop-holds c = (search rules, sym (all_to-none _))
 
-row-within-requires : tie.Need-row-within-requires invariant-loop decreases-loop
+row-within-requires : tie.Need-row_within-within-requires invariant-loop decreases-loop
 row-within-requires c κs =
     let a = c.before.before.before.before.before.before in
-    (omega (arith, bands-le a.args.registers), (a.requires.1.0, length_part a.args.totals.now (c.before.before.before.loop.n * 112) 112 (omega arith)))
+    (omega (arith, bands-le a.args.registers), (a.requires.1.0, length_part a.args.totals.now (c.loop-n.n * 112) 112 (omega arith)))
 
-loop-again : tie.Need-loop-preserved invariant-loop decreases-loop
+loop-again : tie.Need-loop-n-preserved invariant-loop decreases-loop
 loop-again c =
-    let a = c.before.before.before.before.before.before.before.args in
-    let l = c.before.before.before.before.loop in (
+    let a = c.args in
+    let l = c.loop-n in (
       search rules,
       ap₂ ◌&&◌ l.invariant.1
-          (c.row_within.ensures
-          ∙ ap₂ (λ (t : Bool) (k : ℕ). row_within t k a.limits.now (part a.totals.now (l.n * 112) 112)) c.before.before.enabled.ensures c.before.before.before.before.before.before.before.requires.0
+          (c.row_within-within.ensures
+          ∙ ap₂ (λ (t : Bool) (k : ℕ). row_within t k a.limits.now (part a.totals.now (l.n * 112) 112)) c.enabled.ensures c.requires.0
           ∙ row-slots a.registers a.limits.now a.totals.now l.n)
           ∙ sym (all_to-next (λ n. all_to 112 (λ b. leb (slot a.totals.now n b) (cond (in_use a.registers n b) (get_or a.limits.now b 0) 0))) l.n),
     )
 
 returns : tie.Need-returns invariant-loop decreases-loop
 unfolding slots_within
-returns c = let e : c.before.loop.n ≡ 7 = omega arith in rw e at c.before.loop.invariant.1
+returns c = let e : c.loop-n.n ≡ 7 = omega arith in rw e at c.loop-n.invariant.1
 
-pub rows-within-spec : {M : Type 1} → statement M
-rows-within-spec =
+pub rows_within_spec : {M : Type 1} → statement M
+rows_within_spec =
     tie.close
     (tie.spec
     invariant-loop

@@ -6,17 +6,17 @@ use borrow.Author.Rules.{rules}
 use Rattle.limits.proofs.totals_within.Statement.{statement}
 use Rattle.limits.proofs.totals_within.Tie as tie
 
-returns : tie.Need-returns
+returns : tie.Need-returns-then-totals-ne-TOTALS
 unfolding within
-returns c = rw (ne_eqb _ _ c.if1.true)
+returns c = rw (ne_eqb _ _ c.if-totals-ne-TOTALS.true)
 
-returns-2 : tie.Need-returns-2
+returns-2 : tie.Need-returns-then-are_within
 unfolding within
-returns-2 c = rw (eq-eqb _ _ c.before.before.if1.false, sym c.before.are-within.ensures ∙ c.if2.true)
+returns-2 c = rw (eq-eqb _ _ c.if-totals-ne-TOTALS.false, sym c.are_within.ensures ∙ c.if-are_within.true)
 
-returns-3 : tie.Need-returns-3
+returns-3 : tie.Need-returns-else-are_within
 unfolding within
-returns-3 c = rw (eq-eqb _ _ c.before.before.if1.false, sym c.before.are-within.ensures ∙ c.if2.false)
+returns-3 c = rw (eq-eqb _ _ c.if-totals-ne-TOTALS.false, sym c.are_within.ensures ∙ c.if-are_within.false)
 
-pub totals-within-spec : {M : Type 1} → statement M
-totals-within-spec = tie.close (tie.spec returns (λ c κs. search rules) returns-2 returns-3)
+pub totals_within_spec : {M : Type 1} → statement M
+totals_within_spec = tie.close (tie.spec returns (λ c κs. search rules) returns-2 returns-3)

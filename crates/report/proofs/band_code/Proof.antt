@@ -9,22 +9,22 @@ use borrow.Author.Rules.{rules}
 use Rattle.report.proofs.band_code.Statement.{statement}
 use Rattle.report.proofs.band_code.Tie as tie
 
-mul-band-mean : tie.Need-overflow-mul-band-mean
-mul-band-mean c = omega (arith, (bands-count c.before.args.setting).at_most)
+mul-band-mean : tie.Need-offset_bounds-row-b
+mul-band-mean c = omega (arith, (bands-count c.args.setting).at_most)
 
-shared-slice-read-band-mean : tie.Need-shared-slice-read-band-mean
-shared-slice-read-band-mean c = omega (arith, (bands-count c.before.before.args.setting).at_most, c.before.before.requires.1.0)
+shared-slice-read-band-mean : tie.Need-bounds-row-b
+shared-slice-read-band-mean c = omega (arith, (bands-count c.args.setting).at_most, c.requires.1.0)
 
-band-mean-requires : tie.Need-band-mean-requires
-band-mean-requires c κs = (c.before.before.requires.0, c.before.before.requires.1.1)
+band-mean-requires : tie.Need-band_mean-requires
+band-mean-requires c κs = (c.requires.0, c.requires.1.1)
 
-cast-compress-band : tie.Need-overflow-cast-compress-band
-cast-compress-band c = omega (arith, mask_lt c.band-mean.result 32)
+cast-compress-band : tie.Need-overflow_cast-band_mean
+cast-compress-band c = omega (arith, mask_lt c.band_mean.result 32)
 
 returns : tie.Need-returns
-returns c = c.compress-band.ensures ∙ ap band_code (and_mask c.before.band-mean.result 32 ∙ ap (λ (x : ℕ). x % 2 ^ 32) c.before.band-mean.ensures)
+returns c = c.compress_band.ensures ∙ ap band_code (and_mask c.band_mean.result 32 ∙ ap (λ (x : ℕ). x % 2 ^ 32) c.band_mean.ensures)
 
-pub band-code-spec : {M : Type 1} → statement M
-band-code-spec =
+pub band_code_spec : {M : Type 1} → statement M
+band_code_spec =
     tie.close
     (tie.spec mul-band-mean shared-slice-read-band-mean band-mean-requires cast-compress-band (λ c κs. search rules) returns)

@@ -8,22 +8,22 @@ use borrow.Author.Rules.{rules}
 use Rattle.report.proofs.width_exponent.Statement.{statement}
 use Rattle.report.proofs.width_exponent.Tie as tie
 
-add-octave : tie.Need-overflow-add-octave
+add-octave : tie.Need-overflow_add-octave
 add-octave c = omega (arith, setting-le c.args.setting c.args.b c.requires)
 
-shr-octave : tie.Need-overflow-shr-octave
+shr-octave : tie.Need-overflow_shr-octave
 shr-octave c = omega (arith, setting-le c.args.setting c.args.b c.requires)
 
-cast-result : tie.Need-overflow-cast-result
-cast-result c = omega (arith, shr_le c.before.args.b (c.before.args.setting + 2), (bands-count c.before.args.setting).at_most)
+cast-result : tie.Need-overflow_cast-result
+cast-result c = omega (arith, shr_le c.args.b (c.args.setting + 2), (bands-count c.args.setting).at_most)
 
-returns : tie.Need-returns
+returns : tie.Need-returns-then-octave-eq0
 unfolding width_exponent
 returns c = omega arith
 
-returns-2 : tie.Need-returns-2
+returns-2 : tie.Need-returns-else-octave-eq0
 unfolding width_exponent
 returns-2 c = omega arith
 
-pub width-exponent-spec : {M : Type 1} → statement M
-width-exponent-spec = tie.close (tie.spec add-octave shr-octave cast-result (λ c. search rules) returns returns-2)
+pub width_exponent_spec : {M : Type 1} → statement M
+width_exponent_spec = tie.close (tie.spec add-octave shr-octave cast-result (λ c. search rules) returns returns-2)

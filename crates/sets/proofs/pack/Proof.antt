@@ -7,25 +7,25 @@ use Rattle.words.proofs.Laws.{size-range}
 use Rattle.sets.proofs.pack.Statement.{statement}
 use Rattle.sets.proofs.pack.Tie as tie
 
-pack-set-requires : tie.Need-pack-set-requires
+pack-set-requires : tie.Need-pack_set-requires
 pack-set-requires c κs =
-    (size-range _ _ (sym c.before.before.before.before.set_words.ensures ∙ ap set_words_outcome c.before.before.words.given.1)).1
+    (size-range _ _ (sym c.set_words.ensures ∙ ap set_words_outcome c.in-Count.is)).1
 
-returns : tie.Need-returns
+returns : tie.Need-returns-in-Count
 unfolding pack_outcome
 returns c =
-    let a = c.before.before.before.before.before.before.before.before.before.args in
-    let size = sym (ap set_words_outcome c.before.before.before.before.before.words.given.1) ∙ c.before.before.before.before.before.before.before.set_words.ensures in
-    c.before.before.pack-set.ensures ∙ ap (pack_sized a.apid a.samples.now a.out.now) size
+    let a = c.args in
+    let size = sym (ap set_words_outcome c.in-Count.is) ∙ c.set_words.ensures in
+    c.pack_set.ensures ∙ ap (pack_sized a.apid a.samples.now a.out.now) size
 
-returns-2 : tie.Need-returns-2
+returns-2 : tie.Need-returns-in-Refused
 unfolding pack_outcome
 returns-2 c =
-    let a = c.before.before.before.before.before.args in
-    ap (pack_sized a.apid a.samples.now a.out.now) (sym (ap set_words_outcome c.before.refusal.given.1) ∙ c.before.before.before.set_words.ensures)
+    let a = c.args in
+    ap (pack_sized a.apid a.samples.now a.out.now) (sym (ap set_words_outcome c.in-Refused.is) ∙ c.set_words.ensures)
 
-pub pack-spec : {M : Type 1} → statement M
-pack-spec =
+pub pack_spec : {M : Type 1} → statement M
+pack_spec =
     tie.close
     (tie.spec
     (λ c κs. search rules)

@@ -12,28 +12,28 @@ use Rattle.refusal.specs.Outcome.{given}
 use Rattle.sets.proofs.pack_set.Statement.{statement}
 use Rattle.sets.proofs.pack_set.Tie as tie
 
-returns : tie.Need-returns
+returns : tie.Need-returns-then-samples-words
 returns c =
-    let a = c.before.before.args in
-    let odd : eqb (length a.samples.now) a.words ≡ false = ne_eqb _ _ c.if1.true in
+    let a = c.args in
+    let odd : eqb (length a.samples.now) a.words ≡ false = ne_eqb _ _ c.if-samples-words.true in
     simp odd
 
-returns-2 : tie.Need-returns-2
+returns-2 : tie.Need-returns-then-out-words
 returns-2 c =
-    let a = c.before.before.before.args in
-    let even : eqb (length a.samples.now) a.words ≡ true = eq-eqb _ _ c.before.if1.false in
+    let a = c.args in
+    let even : eqb (length a.samples.now) a.words ≡ true = eq-eqb _ _ c.if-samples-words.false in
     let short : leb (3 * a.words) (length a.out.now) ≡ false = lt-leb (3 * a.words) (length a.out.now) (omega arith) in
     simp (even, short)
 
-returns-3 : tie.Need-returns-3
+returns-3 : tie.Need-returns
 returns-3 c =
-    let a = c.before.before.before.before.before.before.before.args in
-    let even : eqb (length a.samples.now) a.words ≡ true = eq-eqb _ _ c.before.before.before.before.before.if1.false in
-    let room : leb (3 * a.words) (length a.out.now) ≡ true = le-leb _ _ c.before.before.before.before.if2.false in
-    simp (even, room) (ap (λ (l : List ℕ). record { answer = given (3 * a.words); buffer = l }) c.before.before.put-words.ensures)
+    let a = c.args in
+    let even : eqb (length a.samples.now) a.words ≡ true = eq-eqb _ _ c.if-samples-words.false in
+    let room : leb (3 * a.words) (length a.out.now) ≡ true = le-leb _ _ c.if-out-words.false in
+    simp (even, room) (ap (λ (l : List ℕ). record { answer = given (3 * a.words); buffer = l }) c.put_words.ensures)
 
-pub pack-set-spec : {M : Type 1} → statement M
-pack-set-spec =
+pub pack_set_spec : {M : Type 1} → statement M
+pack_set_spec =
     tie.close
     (tie.spec
     returns

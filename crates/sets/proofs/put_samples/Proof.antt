@@ -16,39 +16,39 @@ use Rattle.sets.specs.Sets.{samples_of}
 use Rattle.sets.proofs.put_samples.Statement.{statement}
 use Rattle.sets.proofs.put_samples.Tie as tie
 
-abbrev invariant-loop : tie.invariant-loop
+abbrev invariant-loop : tie.invariant-loop-i
 invariant-loop n bytes samples₀ i₀ samples i = (i ≤ n) × (3 * n ≤ length bytes) × (n ≤ length samples₀) × (length samples ≡ length samples₀) × (samples ≡ samples_of i bytes ++ drop i samples₀)
 
-abbrev decreases-loop : tie.decreases-loop
+abbrev decreases-loop : tie.decreases-loop-i
 decreases-loop n bytes samples₀ i₀ samples i = n - i
 
-loop-holds : tie.Need-loop-init invariant-loop decreases-loop
+loop-holds : tie.Need-loop-i-init invariant-loop decreases-loop
 unfolding samples_of
-loop-holds c = (omega arith, c.before.requires.0, c.before.requires.1, refl, refl)
+loop-holds c = (omega arith, c.requires.0, c.requires.1, refl, refl)
 
-loop-again : tie.Need-loop-preserved invariant-loop decreases-loop
+loop-again : tie.Need-loop-i-preserved invariant-loop decreases-loop
 loop-again c =
-    let a = c.before.before.before.before.before.before.before.args in
-    let l = c.before.before.before.before.before.loop in
-    let read : c.sample-of.result ≡ sample_at a.bytes.now l.i = c.sample-of.ensures ∙ ap sample_of c.before.pair.ensures in
-    let fit : SFits w16 c.sample-of.result = record { sfits = c.sample-of.type-inv } in
-    let put : set l.samples l.i (to_z w16 (of_z w16 c.sample-of.result)) ≡ samples_of (l.i + 1) a.bytes.now ++ drop (l.i + 1) a.samples.now =
-    rw (to_z-of_z w16 c.sample-of.result fit, read, l.invariant.4, samples-more)
+    let a = c.args in
+    let l = c.loop-i in
+    let read : c.sample_of.result ≡ sample_at a.bytes.now l.i = c.sample_of.ensures ∙ ap sample_of c.pair.ensures in
+    let fit : SFits w16 c.sample_of.result = record { sfits = c.sample_of.type_inv } in
+    let put : set l.samples l.i (to_z w16 (of_z w16 c.sample_of.result)) ≡ samples_of (l.i + 1) a.bytes.now ++ drop (l.i + 1) a.samples.now =
+    rw (to_z-of_z w16 c.sample_of.result fit, read, l.invariant.4, samples-more)
     (front-more (samples_of l.i a.bytes.now) (sample_at a.bytes.now l.i ∷ []) a.samples.now l.i (samples-length l.i a.bytes.now) (omega arith)) in
     (omega arith, omega arith, omega arith, simp length-set l.invariant.3, put)
 
-same_length : tie.Need-same-length invariant-loop decreases-loop
-same_length c = c.before.loop.invariant.3
+same_length : tie.Need-shape_of-samples invariant-loop decreases-loop
+same_length c = c.loop-i.invariant.3
 
 returns : tie.Need-returns invariant-loop decreases-loop
 returns c =
-    let a = c.before.before.before.args in
-    let l = c.before.loop in
+    let a = c.args in
+    let l = c.loop-i in
     let e : l.i ≡ a.n = omega arith in
     rw (← e, samples-length l.i a.bytes.now) l.invariant.4
 
-pub put-samples-spec : {M : Type 1} → statement M
-put-samples-spec =
+pub put_samples_spec : {M : Type 1} → statement M
+put_samples_spec =
     tie.close
     (tie.spec
     invariant-loop

@@ -7,25 +7,25 @@ use Rattle.words.proofs.Laws.{size-range}
 use Rattle.sets.proofs.unpack.Statement.{statement}
 use Rattle.sets.proofs.unpack.Tie as tie
 
-unpack-set-requires : tie.Need-unpack-set-requires
+unpack-set-requires : tie.Need-unpack_set-requires
 unpack-set-requires c κs =
-    (size-range _ _ (sym c.before.before.before.before.set_words.ensures ∙ ap set_words_outcome c.before.before.words.given.1)).1
+    (size-range _ _ (sym c.set_words.ensures ∙ ap set_words_outcome c.in-Count.is)).1
 
-returns : tie.Need-returns
+returns : tie.Need-returns-in-Count
 unfolding unpack_outcome
 returns c =
-    let a = c.before.before.before.before.before.before.before.before.args in
-    let size = sym (ap set_words_outcome c.before.before.before.before.words.given.1) ∙ c.before.before.before.before.before.before.set_words.ensures in
-    c.before.unpack-set.ensures ∙ ap (unpack_sized a.apid a.bytes.now a.samples.now) size
+    let a = c.args in
+    let size = sym (ap set_words_outcome c.in-Count.is) ∙ c.set_words.ensures in
+    c.unpack_set.ensures ∙ ap (unpack_sized a.apid a.bytes.now a.samples.now) size
 
-returns-2 : tie.Need-returns-2
+returns-2 : tie.Need-returns-in-Refused
 unfolding unpack_outcome
 returns-2 c =
-    let a = c.before.before.before.before.before.args in
-    ap (unpack_sized a.apid a.bytes.now a.samples.now) (sym (ap set_words_outcome c.before.refusal.given.1) ∙ c.before.before.before.set_words.ensures)
+    let a = c.args in
+    ap (unpack_sized a.apid a.bytes.now a.samples.now) (sym (ap set_words_outcome c.in-Refused.is) ∙ c.set_words.ensures)
 
-pub unpack-spec : {M : Type 1} → statement M
-unpack-spec =
+pub unpack_spec : {M : Type 1} → statement M
+unpack_spec =
     tie.close
     (tie.spec
     (λ c κs. search rules)

@@ -15,39 +15,39 @@ use Rattle.sets.proofs.Laws.{whole_words}
 use Rattle.sets.proofs.unpack_set.Statement.{statement}
 use Rattle.sets.proofs.unpack_set.Tie as tie
 
-returns : tie.Need-returns
+returns : tie.Need-returns-then-bytes-words
 returns c =
-    let a = c.before.before.args in
-    let odd : eqb (length a.bytes.now) (3 * a.words) ≡ false = ne_eqb _ _ c.if1.true in
+    let a = c.args in
+    let odd : eqb (length a.bytes.now) (3 * a.words) ≡ false = ne_eqb _ _ c.if-bytes-words.true in
     simp odd
 
-returns-2 : tie.Need-returns-2
+returns-2 : tie.Need-returns-then-samples-words
 returns-2 c =
-    let a = c.before.before.before.args in
-    let even : eqb (length a.bytes.now) (3 * a.words) ≡ true = eq-eqb _ _ c.before.if1.false in
+    let a = c.args in
+    let even : eqb (length a.bytes.now) (3 * a.words) ≡ true = eq-eqb _ _ c.if-bytes-words.false in
     let short : leb a.words (length a.samples.now) ≡ false = lt-leb a.words (length a.samples.now) (omega arith) in
     simp (even, short)
 
-returns-3 : tie.Need-returns-3
+returns-3 : tie.Need-returns-then-not-every_apid
 returns-3 c =
-    let a = c.before.before.before.before.before.args in
-    let even : eqb (length a.bytes.now) (3 * a.words) ≡ true = eq-eqb _ _ c.before.before.before.if1.false in
-    let room : leb a.words (length a.samples.now) ≡ true = le-leb _ _ c.before.before.if2.false in
+    let a = c.args in
+    let even : eqb (length a.bytes.now) (3 * a.words) ≡ true = eq-eqb _ _ c.if-bytes-words.false in
+    let room : leb a.words (length a.samples.now) ≡ true = le-leb _ _ c.if-samples-words.false in
     let other : every_apid a.apid a.words a.bytes.now ≡ false =
-    ap (λ (n : ℕ). every_apid a.apid n a.bytes.now) (sym (whole_words a.bytes.now a.words c.before.before.before.if1.false)) ∙ sym c.before.every-apid.ensures ∙ not-true _ c.if3.true in
+    ap (λ (n : ℕ). every_apid a.apid n a.bytes.now) (sym (whole_words a.bytes.now a.words c.if-bytes-words.false)) ∙ sym c.every_apid.ensures ∙ not-true _ c.if-not-every_apid.true-raw in
     simp (even, room, other)
 
-returns-4 : tie.Need-returns-4
+returns-4 : tie.Need-returns
 returns-4 c =
-    let a = c.before.before.before.before.before.before.before.before.args in
-    let even : eqb (length a.bytes.now) (3 * a.words) ≡ true = eq-eqb _ _ c.before.before.before.before.before.before.if1.false in
-    let room : leb a.words (length a.samples.now) ≡ true = le-leb _ _ c.before.before.before.before.before.if2.false in
+    let a = c.args in
+    let even : eqb (length a.bytes.now) (3 * a.words) ≡ true = eq-eqb _ _ c.if-bytes-words.false in
+    let room : leb a.words (length a.samples.now) ≡ true = le-leb _ _ c.if-samples-words.false in
     let whole : every_apid a.apid a.words a.bytes.now ≡ true =
-    ap (λ (n : ℕ). every_apid a.apid n a.bytes.now) (sym (whole_words a.bytes.now a.words c.before.before.before.before.before.before.if1.false)) ∙ sym c.before.before.before.before.every-apid.ensures ∙ not-false _ c.before.before.before.if3.false in
-    simp (even, room, whole) (ap (λ (l : List ℤ). record { answer = given a.words; buffer = l }) c.before.put-samples.ensures)
+    ap (λ (n : ℕ). every_apid a.apid n a.bytes.now) (sym (whole_words a.bytes.now a.words c.if-bytes-words.false)) ∙ sym c.every_apid.ensures ∙ not-false _ c.if-not-every_apid.false-raw in
+    simp (even, room, whole) (ap (λ (l : List ℤ). record { answer = given a.words; buffer = l }) c.put_samples.ensures)
 
-pub unpack-set-spec : {M : Type 1} → statement M
-unpack-set-spec =
+pub unpack_set_spec : {M : Type 1} → statement M
+unpack_set_spec =
     tie.close
     (tie.spec
     (λ c. search rules)

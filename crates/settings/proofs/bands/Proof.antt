@@ -25,13 +25,13 @@ cast-setting : tie.Need-overflow_cast-setting
 cast-setting c = search rules
 
 array-read-result : tie.Need-bounds-setting
-array-read-result c = omega (arith, at_most c)
+array-read-result c = omega (arith, at_most c.before)
 
 cast-result : tie.Need-overflow_cast-result
-cast-result c = omega (arith, counted c, bands-le c.args.registers)
+cast-result c = omega (arith, counted c.before.before, bands-le c.args.registers)
 
 returns : tie.Need-returns
-returns c = counted c
+returns c = counted c.before.before
 
 pub bands_spec : {M : Type 1} → statement M
 bands_spec = tie.close (tie.spec setting-requires cast-setting array-read-result cast-result returns)

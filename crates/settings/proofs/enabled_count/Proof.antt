@@ -24,9 +24,9 @@ loop-again c =
     let r = c.args.registers in
     let n = c.loop-n.n in
     ⊎_elim
-    (λ w. (search rules, omega arith, omega (arith, before_on r n (sym c.enabled.ensures ∙ w.0.taken))))
-    (λ w. (search rules, search rules, omega (arith, before-off r n (sym c.enabled.ensures ∙ w.0.left))))
-    c.if-enabled.branch
+    (λ w. (search rules, omega arith, omega (arith, before_on r n (sym c.enabled.ensures ∙ w.if-enabled.true))))
+    (λ w. (search rules, search rules, omega (arith, before-off r n (sym c.enabled.ensures ∙ w.if-enabled.false))))
+    c.if-enabled.branch-raw
 
 returns : tie.Need-returns invariant-loop decreases-loop
 returns c = let e : c.loop-n.n ≡ 7 = omega arith in rw e at c.loop-n.invariant.2

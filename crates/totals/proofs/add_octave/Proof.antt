@@ -11,38 +11,38 @@ same-run width known row powers e = subst (λ (w : ℕ). BandsOfWidth w row powe
 same_row : (width known : ℕ) (row powers after : List ℕ) → width ≡ known → after ≡ added_run known row powers → after ≡ added_run width row powers
 same_row width known row powers after e p = p ∙ ap (λ (w : ℕ). added_run w row powers) (sym e)
 
-add-run-requires : tie.Need-add-run-requires
-add-run-requires c κs = same-run _ 2 _ _ c.before.match.keys1 c.before.before.before.before.requires
+add-run-requires : tie.Need-add_run-requires
+add-run-requires c κs = same-run _ 2 _ _ c.in-2.is c.requires
 
-returns : tie.Need-returns
-returns c = same_row _ 2 _ _ _ c.before.before.before.before.match.keys1 c.before.before.add-run.ensures
+returns : tie.Need-returns-in-2
+returns c = same_row _ 2 _ _ _ c.in-2.is c.add_run.ensures
 
-add-run-requires-2 : tie.Need-add-run-requires-2
-add-run-requires-2 c κs = same-run _ 4 _ _ c.before.match.keys2 c.before.before.before.before.requires
+add-run-requires-2 : tie.Need-add_run-requires-in-4
+add-run-requires-2 c κs = same-run _ 4 _ _ c.in-4.is c.requires
 
-returns-2 : tie.Need-returns-2
-returns-2 c = same_row _ 4 _ _ _ c.before.before.before.before.match.keys2 c.before.before.add-run2.ensures
+returns-2 : tie.Need-returns-in-4
+returns-2 c = same_row _ 4 _ _ _ c.in-4.is c.add_run-in-4.ensures
 
-add-run-requires-3 : tie.Need-add-run-requires-3
-add-run-requires-3 c κs = same-run _ 8 _ _ c.before.match.keys3 c.before.before.before.before.requires
+add-run-requires-3 : tie.Need-add_run-requires-in-8
+add-run-requires-3 c κs = same-run _ 8 _ _ c.in-8.is c.requires
 
-returns-3 : tie.Need-returns-3
-returns-3 c = same_row _ 8 _ _ _ c.before.before.before.before.match.keys3 c.before.before.add-run3.ensures
+returns-3 : tie.Need-returns-in-8
+returns-3 c = same_row _ 8 _ _ _ c.in-8.is c.add_run-in-8.ensures
 
-add-run-requires-4 : tie.Need-add-run-requires-4
-add-run-requires-4 c κs = same-run _ 16 _ _ c.before.match.keys4 c.before.before.before.before.requires
+add-run-requires-4 : tie.Need-add_run-requires-in-16
+add-run-requires-4 c κs = same-run _ 16 _ _ c.in-16.is c.requires
 
-returns-4 : tie.Need-returns-4
-returns-4 c = same_row _ 16 _ _ _ c.before.before.before.before.match.keys4 c.before.before.add-run4.ensures
+returns-4 : tie.Need-returns-in-16
+returns-4 c = same_row _ 16 _ _ _ c.in-16.is c.add_run-in-16.ensures
 
-add-run-requires-5 : tie.Need-add-run-requires-5
-add-run-requires-5 c κs = same-run _ 32 _ _ c.before.match.keys5 c.before.before.before.before.requires
+add-run-requires-5 : tie.Need-add_run-requires-in-32
+add-run-requires-5 c κs = same-run _ 32 _ _ c.in-32.is c.requires
 
-returns-5 : tie.Need-returns-5
-returns-5 c = same_row _ 32 _ _ _ c.before.before.before.before.match.keys5 c.before.before.add-run5.ensures
+returns-5 : tie.Need-returns-in-32
+returns-5 c = same_row _ 32 _ _ _ c.in-32.is c.add_run-in-32.ensures
 
-pub add-octave-spec : {M : Type 1} → statement M
-add-octave-spec =
+pub add_octave_spec : {M : Type 1} → statement M
+add_octave_spec =
     tie.close
     (tie.spec
     add-run-requires

@@ -9,47 +9,47 @@ use Rattle.lists.specs.Tables.{concat_to, overwrite}
 use Rattle.totals.proofs.add_rows.Statement.{statement}
 use Rattle.totals.proofs.add_rows.Tie as tie
 
-abbrev invariant-loop : tie.invariant-loop
+abbrev invariant-loop : tie.invariant-loop-n
 invariant-loop registers totals₀ powers setting n₀ totals n = (n ≤ 7) × (length totals ≡ 784) × (totals ≡ overwrite (concat_to n (summed_row registers totals₀ powers)) totals₀)
 
-abbrev decreases-loop : tie.decreases-loop
+abbrev decreases-loop : tie.decreases-loop-n
 decreases-loop registers totals₀ powers setting n₀ totals n = 7 - n
 
-loop-holds : tie.Need-loop-init invariant-loop decreases-loop
+loop-holds : tie.Need-loop-n-init invariant-loop decreases-loop
 loop-holds c = (search rules, search rules, parts_none _ _)
 
-add-if-enabled-requires : tie.Need-add-if-enabled-requires invariant-loop decreases-loop
+add-if-enabled-requires : tie.Need-add_if_enabled-requires invariant-loop decreases-loop
 add-if-enabled-requires c κs =
-    let a = c.before.before.before.before.before.before.before.before.args in
-    let l = c.before.before.before.before.loop in (
-      subst (λ (x : ℕ). x ≤ 2) (sym c.before.before.before.before.before.bin-setting.ensures) (setting-le a.registers),
+    let a = c.args in
+    let l = c.loop-n in (
+      subst (λ (x : ℕ). x ≤ 2) (sym c.bin_setting-setting.ensures) (setting-le a.registers),
       (length_part l.totals (l.n * 112) 112 (omega arith), length_part a.powers.now (l.n * 1024) 1024 (omega arith)),
     )
 
-loop-again : tie.Need-loop-preserved invariant-loop decreases-loop
+loop-again : tie.Need-loop-n-preserved invariant-loop decreases-loop
 loop-again c =
-    let a = c.before.before.before.before.before.before.before.before.before.before.before.args in
-    let l = c.before.before.before.before.before.before.before.loop in
-    let w = c.before.before.add-if-enabled in (
+    let a = c.args in
+    let l = c.loop-n in
+    let w = c.add_if_enabled in (
       search rules,
-      same_len_mid (l.n * 112) (l.n * 112 + 112 - l.n * 112) l.totals w.new.1.1.0 w.auto.1.1.0 ∙ l.invariant.1,
-      row_step a.registers a.totals.now a.powers.now c.before.before.before.before.before.before.before.before.before.before.before.requires.0 l.n l.totals _ (search rules) l.invariant.2
+      same_len_mid (l.n * 112) (l.n * 112 + 112 - l.n * 112) l.totals w.new.row w.auto.row ∙ l.invariant.1,
+      row_step a.registers a.totals.now a.powers.now c.requires.0 l.n l.totals _ (search rules) l.invariant.2
           (w.ensures
           ∙ ap₂ (λ (t : Bool) (s : ℕ). cond t (added_row s (part l.totals (l.n * 112) 112) (part a.powers.now (l.n * 1024) 1024)) (part l.totals (l.n * 112) 112))
-          c.before.before.before.before.before.enabled.ensures c.before.before.before.before.before.before.before.before.bin-setting.ensures),
+          c.enabled.ensures c.bin_setting-setting.ensures),
     )
 
-same_length : tie.Need-same-length invariant-loop decreases-loop
-same_length c = c.before.loop.invariant.1 ∙ sym c.before.before.before.before.before.requires.0
+same_length : tie.Need-shape_of-totals invariant-loop decreases-loop
+same_length c = c.loop-n.invariant.1 ∙ sym c.requires.0
 
 returns : tie.Need-returns invariant-loop decreases-loop
 returns c =
-    let a = c.before.before.before.before.before.args in
-    let e : c.before.loop.n ≡ 7 = omega arith in
-    rows_all a.registers a.totals.now a.powers.now c.before.before.before.before.before.requires.0 _ (rw e at c.before.loop.invariant.2)
+    let a = c.args in
+    let e : c.loop-n.n ≡ 7 = omega arith in
+    rows_all a.registers a.totals.now a.powers.now c.requires.0 _ (rw e at c.loop-n.invariant.2)
 
-pub add-rows-spec : {M : Type 1} → statement M
-add-rows-spec =
+pub add_rows_spec : {M : Type 1} → statement M
+add_rows_spec =
     tie.close
     (tie.spec
     invariant-loop

@@ -4,22 +4,22 @@ use Rattle.totals.specs.Adding.{add_outcome}
 use Rattle.totals.proofs.add_spectrum.Statement.{statement}
 use Rattle.totals.proofs.add_spectrum.Tie as tie
 
-returns : tie.Need-returns
+returns : tie.Need-returns-then-totals-ne-TOTALS
 unfolding add_outcome
-returns c = rw (ne_eqb _ _ c.if1.true)
+returns c = rw (ne_eqb _ _ c.if-totals-ne-TOTALS.true)
 
-returns-2 : tie.Need-returns-2
+returns-2 : tie.Need-returns-then-powers-ne-POWERS
 unfolding add_outcome
-returns-2 c = rw (eq-eqb _ _ c.before.if1.false, ne_eqb _ _ c.if2.true)
+returns-2 c = rw (eq-eqb _ _ c.if-totals-ne-TOTALS.false, ne_eqb _ _ c.if-powers-ne-POWERS.true)
 
-returns-3 : tie.Need-returns-3
+returns-3 : tie.Need-returns
 unfolding add_outcome
 returns-3 c =
     rw (
-      eq-eqb _ _ c.before.before.before.before.before.if1.false,
-      eq-eqb _ _ c.before.before.before.before.if2.false,
-      c.before.before.add-rows.ensures,
+      eq-eqb _ _ c.if-totals-ne-TOTALS.false,
+      eq-eqb _ _ c.if-powers-ne-POWERS.false,
+      c.add_rows.ensures,
     )
 
-pub add-spectrum-spec : {M : Type 1} → statement M
-add-spectrum-spec = tie.close (tie.spec returns returns-2 (λ c κs. search rules) (λ c. search rules) returns-3)
+pub add_spectrum_spec : {M : Type 1} → statement M
+add_spectrum_spec = tie.close (tie.spec returns returns-2 (λ c κs. search rules) (λ c. search rules) returns-3)

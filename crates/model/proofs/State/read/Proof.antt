@@ -9,32 +9,32 @@ use borrow.Author.Rules.{rules}
 use Rattle.model.proofs.State.read.Statement.{statement}
 use Rattle.model.proofs.State.read.Tie as tie
 
-returns : tie.Need-returns
+returns : tie.Need-returns-then-not-is_sound
 unfolding register_read
 returns c =
-    let unsound : registers_sound c.before.before.before.args.self.registers ≡ false = sym c.before.is-sound.ensures ∙ not-true _ c.if1.true in
+    let unsound : registers_sound c.args.self.registers ≡ false = sym c.is_sound.ensures ∙ not-true _ c.if-not-is_sound.true-raw in
     simp unsound
 
-returns-2 : tie.Need-returns-2
+returns-2 : tie.Need-returns-then-not-is_id
 unfolding register_read
 returns-2 c =
-    let a = c.before.before.before.before.before.args in
-    let ok : registers_sound a.self.registers ≡ true = sym c.before.before.before.is-sound.ensures ∙ not-false _ c.before.before.if1.false in
-    let unknown : is_id a.id ≡ false = sym c.before.is-id.ensures ∙ not-true _ c.if2.true in
+    let a = c.args in
+    let ok : registers_sound a.self.registers ≡ true = sym c.is_sound.ensures ∙ not-false _ c.if-not-is_sound.false-raw in
+    let unknown : is_id a.id ≡ false = sym c.is_id.ensures ∙ not-true _ c.if-not-is_id.true-raw in
     simp (ok, unknown)
 
-sub-n : tie.Need-overflow-sub-n
-sub-n c = omega (arith, id_range c.before.before.before.before.before.args.id (sym c.before.is-id.ensures ∙ not-false _ c.if2.false))
+sub-n : tie.Need-overflow_sub-n
+sub-n c = omega (arith, id_range c.args.id (sym c.is_id.ensures ∙ not-false _ c.if-not-is_id.false-raw))
 
-element-copy-out-t14 : tie.Need-element-copy-out-t14
-element-copy-out-t14 c = omega (arith, id_range c.before.before.before.before.before.args.id (sym c.before.is-id.ensures ∙ not-false _ c.if2.false))
+element-copy-out-t14 : tie.Need-bounds-registers-n
+element-copy-out-t14 c = omega (arith, id_range c.args.id (sym c.is_id.ensures ∙ not-false _ c.if-not-is_id.false-raw))
 
-returns-3 : tie.Need-returns-3
+returns-3 : tie.Need-returns
 unfolding register_read
 returns-3 c =
-    let a = c.before.before.before.before.before.before.args in
-    let ok : registers_sound a.self.registers ≡ true = sym c.before.before.before.before.is-sound.ensures ∙ not-false _ c.before.before.before.if1.false in
-    let known : is_id a.id ≡ true = sym c.before.before.is-id.ensures ∙ not-false _ c.before.if2.false in
+    let a = c.args in
+    let ok : registers_sound a.self.registers ≡ true = sym c.is_sound.ensures ∙ not-false _ c.if-not-is_sound.false-raw in
+    let known : is_id a.id ≡ true = sym c.is_id.ensures ∙ not-false _ c.if-not-is_id.false-raw in
     simp (ok, known)
 
 pub read_spec : {M : Type 1} → statement M

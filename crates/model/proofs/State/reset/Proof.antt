@@ -8,5 +8,5 @@ use Rattle.model.proofs.State.reset.Tie as tie
 returns : tie.Need-returns
 returns c = ap (λ (r : Registers). record { registers = r; phase = 0; reports = 0 }) c.reset.ensures
 
-pub reset-spec : {M : Type 1} → statement M
-reset-spec = tie.close (tie.spec (λ c κs. search rules) returns)
+pub reset_spec : {M : Type 1} → statement M
+reset_spec = tie.close (tie.spec (λ c κs. search rules) returns)
