@@ -12,7 +12,7 @@ use Rattle.lists.proofs.Choices.{by_cases}
 use Rattle.bursts.specs.declared.Slots.{Slots}
 use Rattle.bursts.specs.declared.SlotState.{SlotState}
 use Rattle.bursts.specs.declared.SlotState.TheVariants.{Free, Held, Sending}
-use Rattle.bursts.specs.Slots.{slot_state_of, is_free, is_sending, held_below, smallest_held, no_slot, sending_slots, changed, sound, looked_at, takes, refused_after, offer_outcome}
+use Rattle.bursts.specs.Slots.{slot_state_of, is_free, is_sending, held_below, smallest_held, no_slot, sending_slots, changed, looked_at, takes, refused_after, offer_outcome}
 use Rattle.bursts.specs.Calls.{Call, offer, choose, finish, perform, after_calls, offers, NoFinish}
 use Rattle.bursts.specs.Claims.{Sound, held_from, held_at_least, offered_at_least, BurstsKept, TurnedAwayExactly}
 use Rattle.bursts.proofs.Rules.{sound-few}

@@ -1,5 +1,5 @@
 -- 02, ticket 1: what is claimed of the packets of a snapshot. Assumes nothing.
-use Rattle.std.specs.Prelude.{ℕ, ◌+◌, ◌*◌, ◌≤◌, ◌<◌, ◌≡◌, ◌↔◌, List, [], ◌∷◌, ◌++◌, map, ℤ, pos, negsuc, length, take, replicate}
+use Rattle.std.specs.Prelude.{ℕ, ◌*◌, ◌≤◌, ◌<◌, ◌≡◌, ◌↔◌, List, [], ◌∷◌, ◌++◌, map, ℤ, pos, negsuc, length, take, replicate}
 use Rattle.std.specs.Int.Count.{ones}
 use Rattle.lists.specs.Tables.{overwrite}
 use Rattle.refusal.specs.Outcome.{given, refused, refusal_of}

@@ -1,5 +1,5 @@
 -- The numbers of Claims.antt, by computation; the round of eight components by the book. Assumes nothing.
-use Rattle.std.proofs.Common.{◌≡◌, ℕ, zero, suc, ◌+◌, ◌-◌, ◌*◌, ◌^◌, ◌<◌, List, [], ◌∷◌, ◌++◌, map, length, get_or, drop, replicate, ℤ, pos, negsuc, sym, refl, ap, ◌∙◌, subst, ap₂, arith, length-append}
+use Rattle.std.proofs.Common.{◌≡◌, ℕ, zero, suc, ◌+◌, ◌*◌, ◌^◌, ◌<◌, List, [], ◌∷◌, ◌++◌, map, length, get_or, drop, replicate, ℤ, pos, negsuc, sym, refl, ap, ◌∙◌, subst, ap₂, arith, length-append}
 use lib.Signed.{mag}
 use Rattle.lists.specs.Sums.{sum_to}
 use Rattle.lists.specs.Tables.{concat_to, overwrite}

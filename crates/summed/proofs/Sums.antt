@@ -1,5 +1,5 @@
 -- Powers, exact sums and totals, entry by entry. Assumes nothing.
-use Rattle.std.proofs.Common.{◌≡◌, ℕ, ◌+◌, ◌-◌, ◌*◌, ◌^◌, ◌<◌, ◌≤◌, true, cond, ◌&&◌, ltb, List, [], ◌∷◌, ◌++◌, length, get_or, take, drop, ℤ, pos, sym, refl, ap, ◌∙◌, subst, add-zero, arith, length-append, length-drop, length-take, get_or-drop, get_or-take, get_or-append-add, ltb-true, lt-ltb, eqb-true, le-leb, leb-true}
+use Rattle.std.proofs.Common.{◌≡◌, ℕ, ◌+◌, ◌*◌, ◌^◌, ◌<◌, ◌≤◌, true, cond, ◌&&◌, ltb, List, [], ◌∷◌, ◌++◌, length, get_or, take, drop, ℤ, pos, sym, refl, ap, ◌∙◌, subst, add-zero, arith, length-append, length-drop, length-take, get_or-drop, get_or-take, get_or-append-add, ltb-true, lt-ltb, eqb-true, le-leb, leb-true}
 use lib.ListN.{get_or-replicate, length-replicate, get_or-append}
 use Rattle.lists.specs.Bits.{bit}
 use Rattle.lists.proofs.Choices.{both, by_cases, cond-true, cond-false}

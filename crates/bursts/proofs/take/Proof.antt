@@ -2,9 +2,8 @@
 use borrow.Author.Rules.{rules}
 use Rattle.bursts.proofs.take.Statement.{statement}
 use Rattle.bursts.proofs.take.Tie as tie
-use Rattle.bursts.proofs.change.Reads as change-reads
 
-change-requires : tie.Need-change-requires
+change-requires : tie.Need-change-after-requires
 change-requires c κs = search rules
 
 returns : tie.Need-returns

@@ -7,8 +7,8 @@ use Rattle.dfb_refusals.proofs.above_16.Tie as tie
 returns : tie.Need-returns
 returns c = omega arith
 
-pub above-16-spec : {M : Type 1} → statement M
-above-16-spec =
+pub above_16_spec : {M : Type 1} → statement M
+above_16_spec =
     tie.close
     (tie.spec
     (λ c κs. search rules)

@@ -7,8 +7,8 @@ use Rattle.dfb_refusals.proofs.above_63.Tie as tie
 returns : tie.Need-returns
 returns c = omega arith
 
-pub above-63-spec : {M : Type 1} → statement M
-above-63-spec =
+pub above_63_spec : {M : Type 1} → statement M
+above_63_spec =
     tie.close
     (tie.spec
     (λ c κs. search rules)

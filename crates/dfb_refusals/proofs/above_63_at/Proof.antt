@@ -7,8 +7,8 @@ use Rattle.dfb_refusals.proofs.above_63_at.Tie as tie
 returns : tie.Need-returns
 returns c = omega (arith, c.number.ensures)
 
-pub above-63-at-spec : {M : Type 1} → statement M
-above-63-at-spec =
+pub above_63_at_spec : {M : Type 1} → statement M
+above_63_at_spec =
     tie.close
     (tie.spec
     (λ c. search rules)

@@ -23,42 +23,42 @@ use Rattle.fields.proofs.get_each.Tie as tie
 abbrev sample_at : List ℕ → ℕ → ℤ
 sample_at bytes i = sample_of (pair_at bytes (0 + 2 * i))
 
-abbrev invariant-loop : tie.invariant-loop
+abbrev invariant-loop : tie.invariant-loop-i
 invariant-loop bytes n samples₀ i₀ samples i =
     (i ≤ n) × (2 * n ≤ length bytes) × (n ≤ length samples₀) × (length samples ≡ length samples₀)
     × (samples ≡ overwrite (tabulate i (sample_at bytes)) samples₀)
 
-abbrev decreases-loop : tie.decreases-loop
+abbrev decreases-loop : tie.decreases-loop-i
 decreases-loop bytes n samples₀ i₀ samples i = n - i
 
-loop-holds : tie.Need-loop-init invariant-loop decreases-loop
-loop-holds c = (omega arith, c.before.requires.0, c.before.requires.1, refl, table_none _ _)
+loop-holds : tie.Need-loop-i-init invariant-loop decreases-loop
+loop-holds c = (omega arith, c.requires.0, c.requires.1, refl, table_none _ _)
 
-loop-again : tie.Need-loop-preserved invariant-loop decreases-loop
+loop-again : tie.Need-loop-i-preserved invariant-loop decreases-loop
 loop-again c =
     let known = c.before.before.before.before.before in
-    let a = known.before.args in
-    let l = c.before.before.before.before.loop in
-    let z = c.sample-of.result in
-    let fit : SFits w16 z = record { sfits = c.sample-of.type-inv } in
+    let a = known.args in
+    let l = c.loop-i in
+    let z = c.sample_of.result in
+    let fit : SFits w16 z = record { sfits = c.sample_of.type_inv } in
     let place : 0 + 2 * l.i ≡ 2 * l.i = omega arith in
-    let bits : c.before.exchanged.result ≡ pair_at a.bytes.now (2 * l.i) =
-    c.before.exchanged.ensures ∙ ap exchanged_bits c.before.before.low-first-at.ensures
-    ∙ exchanged-pair (get_or a.bytes.now (2 * l.i) 0) (get_or a.bytes.now (2 * l.i + 1) 0) (known.shared-slice-known.given (2 * l.i)).fits (known.shared-slice-known.given (2 * l.i + 1)).fits in
+    let bits : c.exchanged.result ≡ pair_at a.bytes.now (2 * l.i) =
+    c.exchanged.ensures ∙ ap exchanged_bits c.low_first_at.ensures
+    ∙ exchanged-pair (get_or a.bytes.now (2 * l.i) 0) (get_or a.bytes.now (2 * l.i + 1) 0) (known.shared_slice_known-1.given (2 * l.i)).fits (known.shared_slice_known-1.given (2 * l.i + 1)).fits in
     let read : to_z w16 (of_z w16 z) ≡ sample_at a.bytes.now l.i =
-    to_z-of_z w16 z fit ∙ c.sample-of.ensures ∙ ap sample_of (bits ∙ ap (pair_at a.bytes.now) (omega (arith, place))) in
+    to_z-of_z w16 z fit ∙ c.sample_of.ensures ∙ ap sample_of (bits ∙ ap (pair_at a.bytes.now) (omega (arith, place))) in
     (omega arith, l.invariant.1, l.invariant.2, simp length-set l.invariant.3, table_more (sample_at a.bytes.now) a.samples.now l.i _ (pos 0) l.samples l.invariant.4 (omega arith) read)
 
 returns : tie.Need-returns invariant-loop decreases-loop
 unfolding samples_at
 returns c =
-    let a = c.before.before.before.args in
-    let l = c.before.loop in
+    let a = c.args in
+    let l = c.loop-i in
     let e : l.i ≡ a.n = omega arith in
     l.invariant.4 ∙ ap (λ (m : ℕ). overwrite (tabulate m (sample_at a.bytes.now)) a.samples.now) e
 
-pub get-each-spec : {M : Type 1} → statement M
-get-each-spec =
+pub get_each_spec : {M : Type 1} → statement M
+get_each_spec =
     tie.close
     (tie.spec
     invariant-loop
@@ -72,5 +72,5 @@ get-each-spec =
     (λ c. search rules)
     (λ c. search rules)
     loop-again
-    (λ c. c.before.loop.invariant.3)
+    (λ c. c.loop-i.invariant.3)
     returns)

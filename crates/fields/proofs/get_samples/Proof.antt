@@ -14,29 +14,29 @@ use Rattle.fields.specs.Samples.{get_outcome}
 use Rattle.fields.proofs.get_samples.Statement.{statement}
 use Rattle.fields.proofs.get_samples.Tie as tie
 
-returns : tie.Need-returns
+returns : tie.Need-returns-then-bytes-ne0
 unfolding get_outcome
 returns c =
-    let a = c.before.before.args in
-    let odd : eqb (length a.bytes.now % 2) 0 ≡ false = ne_eqb (length a.bytes.now % 2) 0 (λ e. c.if1.true (omega (arith, e))) in
+    let a = c.args in
+    let odd : eqb (length a.bytes.now % 2) 0 ≡ false = ne_eqb (length a.bytes.now % 2) 0 (λ e. c.if-bytes-ne0.true (omega (arith, e))) in
     simp odd
 
-returns-2 : tie.Need-returns-2
+returns-2 : tie.Need-returns-then-samples-n
 unfolding get_outcome
 returns-2 c =
-    let a = c.before.before.before.args in
+    let a = c.args in
     let even : eqb (length a.bytes.now % 2) 0 ≡ true = eq-eqb (length a.bytes.now % 2) 0 (omega arith) in
     let short : leb (length a.bytes.now / 2) (length a.samples.now) ≡ false = lt-leb (length a.bytes.now / 2) (length a.samples.now) (omega arith) in
     simp (even, short)
 
-returns-3 : tie.Need-returns-3
+returns-3 : tie.Need-returns
 unfolding get_outcome
 returns-3 c =
-    let a = c.before.before.before.before.before.before.args in
+    let a = c.args in
     let n = length a.bytes.now / 2 in
     let even : eqb (length a.bytes.now % 2) 0 ≡ true = eq-eqb (length a.bytes.now % 2) 0 (omega arith) in
     let room : leb (length a.bytes.now / 2) (length a.samples.now) ≡ true = le-leb (length a.bytes.now / 2) (length a.samples.now) (omega arith) in
-    simp (even, room) (ap (λ (l : List ℤ). record { answer = given n; buffer = l }) c.before.get-each.ensures)
+    simp (even, room) (ap (λ (l : List ℤ). record { answer = given n; buffer = l }) c.get_each.ensures)
 
-pub get-samples-spec : {M : Type 1} → statement M
-get-samples-spec = tie.close (tie.spec returns returns-2 (λ c κs. (omega arith, omega arith)) (λ c. search rules) returns-3)
+pub get_samples_spec : {M : Type 1} → statement M
+get_samples_spec = tie.close (tie.spec returns returns-2 (λ c κs. (omega arith, omega arith)) (λ c. search rules) returns-3)

@@ -6,8 +6,8 @@ use Rattle.fields.proofs.low_first_at.Tie as tie
 returns : tie.Need-returns
 returns c = c.pair.ensures
 
-pub low-first-at-spec : {M : Type 1} → statement M
-low-first-at-spec =
+pub low_first_at_spec : {M : Type 1} → statement M
+low_first_at_spec =
     tie.close
     (tie.spec
     (λ c. search rules)

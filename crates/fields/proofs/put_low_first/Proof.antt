@@ -9,8 +9,8 @@ use Rattle.fields.proofs.put_low_first.Tie as tie
 returns : tie.Need-returns
 returns c = refl
 
-pub put-low-first-spec : {M : Type 1} → statement M
-put-low-first-spec =
+pub put_low_first_spec : {M : Type 1} → statement M
+put_low_first_spec =
     tie.close
     (tie.spec
     (λ c. search rules)

@@ -13,19 +13,19 @@ use Rattle.fields.specs.Samples.{put_outcome}
 use Rattle.fields.proofs.put_samples.Statement.{statement}
 use Rattle.fields.proofs.put_samples.Tie as tie
 
-returns : tie.Need-returns
+returns : tie.Need-returns-then-out-samples
 unfolding put_outcome
 returns c =
-    let a = c.before.before.args in
+    let a = c.args in
     let short : leb (2 * length a.samples.now) (length a.out.now) ≡ false = lt-leb (2 * length a.samples.now) (length a.out.now) (omega arith) in
     simp short
 
-returns-2 : tie.Need-returns-2
+returns-2 : tie.Need-returns
 unfolding put_outcome
 returns-2 c =
-    let a = c.before.before.before.before.before.before.args in
+    let a = c.args in
     let room : leb (2 * length a.samples.now) (length a.out.now) ≡ true = le-leb (2 * length a.samples.now) (length a.out.now) (omega arith) in
-    simp room (ap (λ (l : List ℕ). record { answer = given (2 * length a.samples.now); buffer = l }) c.before.before.put-each.ensures)
+    simp room (ap (λ (l : List ℕ). record { answer = given (2 * length a.samples.now); buffer = l }) c.put_each.ensures)
 
-pub put-samples-spec : {M : Type 1} → statement M
-put-samples-spec = tie.close (tie.spec returns (λ c κs. omega arith) (λ c. omega arith) (λ c. search rules) returns-2)
+pub put_samples_spec : {M : Type 1} → statement M
+put_samples_spec = tie.close (tie.spec returns (λ c κs. omega arith) (λ c. omega arith) (λ c. search rules) returns-2)

@@ -5,32 +5,32 @@ use borrow.Author.Rules.{rules}
 use Rattle.interval.proofs.block_joins.Statement.{statement}
 use Rattle.interval.proofs.block_joins.Tie as tie
 
-mul-result : tie.Need-overflow-mul-result
+mul-result : tie.Need-offset_bounds-index-start
 mul-result c = search rules
 
-shared-slice-read-result : tie.Need-shared-slice-read-result
+shared-slice-read-result : tie.Need-bounds-index-start
 shared-slice-read-result c = search rules
 
-cast-result : tie.Need-overflow-cast-result
-cast-result c = omega (arith, c.shared-slice-known.given c.before.args.start)
+cast-result : tie.Need-overflow_cast-result
+cast-result c = omega (arith, c.shared_slice_known-1.given c.args.start)
 
-mul-result-2 : tie.Need-overflow-mul-result-2
+mul-result-2 : tie.Need-offset_bounds-index-i
 mul-result-2 c = search rules
 
-shared-slice-read-result-2 : tie.Need-shared-slice-read-result-2
+shared-slice-read-result-2 : tie.Need-bounds-index-i
 shared-slice-read-result-2 c = search rules
 
-cast-result-2 : tie.Need-overflow-cast-result-2
-cast-result-2 c = omega (arith, c.shared-slice-known2.given c.before.before.args.i)
+cast-result-2 : tie.Need-overflow_cast-result-2
+cast-result-2 c = omega (arith, c.shared_slice_known-2-1.given c.args.i)
 
-add-result : tie.Need-overflow-add-result
-add-result c = omega (arith, c.shared-slice-known2.given c.before.before.args.i)
+add-result : tie.Need-overflow_add-result
+add-result c = omega (arith, c.shared_slice_known-2-1.given c.args.i)
 
 returns : tie.Need-returns
 returns c = refl
 
-pub block-joins-spec : {M : Type 1} → statement M
-block-joins-spec =
+pub block_joins_spec : {M : Type 1} → statement M
+block_joins_spec =
     tie.close
     (tie.spec
     mul-result

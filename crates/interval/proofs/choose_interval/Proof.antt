@@ -7,35 +7,35 @@ use Rattle.interval.proofs.Rules.{too_long, no-limit, nothing, chosen}
 use Rattle.interval.proofs.choose_interval.Statement.{statement}
 use Rattle.interval.proofs.choose_interval.Tie as tie
 
-returns : tie.Need-returns
+returns : tie.Need-returns-then-index-gt-MOST_BLOCKS
 returns c =
-    let a = c.before.before.args in
-    sym (too_long a.index.now a.bonus a.limit (omega (arith, c.if1.true)))
+    let a = c.args in
+    sym (too_long a.index.now a.bonus a.limit (omega (arith, c.if-index-gt-MOST_BLOCKS.true)))
 
-returns-2 : tie.Need-returns-2
+returns-2 : tie.Need-returns-then-limit-eq0
 returns-2 c =
-    let a = c.before.before.before.args in
-    sym (no-limit a.index.now a.bonus a.limit (omega (arith, c.before.if1.false)) c.if2.true)
+    let a = c.args in
+    sym (no-limit a.index.now a.bonus a.limit (omega (arith, c.if-index-gt-MOST_BLOCKS.false)) c.if-limit-eq0.true)
 
-greatest-requires : tie.Need-greatest-requires
+greatest-requires : tie.Need-greatest-start-requires
 greatest-requires c κs = search rules
 
-returns-3 : tie.Need-returns-3
+returns-3 : tie.Need-returns-then-index-start
 returns-3 c =
-    let a = c.before.before.before.before.before.args in
-    let zero = start_none a.index.now c.before.greatest.result c.before.greatest.ensures c.if3.true in
-    sym (nothing a.index.now a.bonus a.limit (omega (arith, c.before.before.before.if1.false)) c.before.before.if2.false zero)
+    let a = c.args in
+    let zero = start_none a.index.now c.greatest-start.result c.greatest-start.ensures c.if-index-start.true in
+    sym (nothing a.index.now a.bonus a.limit (omega (arith, c.if-index-gt-MOST_BLOCKS.false)) c.if-limit-eq0.false zero)
 
-grow-requires : tie.Need-grow-requires
+grow-requires : tie.Need-grow-g-requires
 grow-requires c κs = search rules
 
-returns-4 : tie.Need-returns-4
+returns-4 : tie.Need-returns
 returns-4 c =
-    let a = c.before.before.before.before.before.before.args in
-    let s = start-some a.index.now c.before.before.greatest.result c.before.before.greatest.ensures c.before.if3.false in
-    chosen a.index.now a.bonus a.limit (omega (arith, c.before.before.before.before.if1.false)) c.before.before.before.if2.false s.0
-    c.before.before.greatest.result s.1 c.grow.result c.grow.ensures
+    let a = c.args in
+    let s = start-some a.index.now c.greatest-start.result c.greatest-start.ensures c.if-index-start.false in
+    chosen a.index.now a.bonus a.limit (omega (arith, c.if-index-gt-MOST_BLOCKS.false)) c.if-limit-eq0.false s.0
+    c.greatest-start.result s.1 c.grow-g.result c.grow-g.ensures
 
-pub choose-interval-spec : {M : Type 1} → statement M
-choose-interval-spec =
+pub choose_interval_spec : {M : Type 1} → statement M
+choose_interval_spec =
     tie.close (tie.spec returns returns-2 greatest-requires returns-3 grow-requires returns-4)

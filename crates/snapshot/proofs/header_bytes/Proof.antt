@@ -26,7 +26,7 @@ record Fitting (h : Header) : Type 0 where
   snapshot : Fits w8 h.snapshot
   number : Fits w16 h.number
 
-fitting : (c : tie.After-struct-known) → Fitting c.before.args.header
+fitting : (c : tie.After-struct_known-1) → Fitting c.args.header
 fitting c =
     record {
       coarse = search rules;
@@ -52,7 +52,7 @@ returns : tie.Need-returns
 unfolding header_bytes
 returns c =
     let first = c.before.before.before.before.before.before.before.before.before.before.before.before.before in
-    let h = first.before.args.header in
+    let h = first.args.header in
     let f = fitting first in
     more (byte-bytes 33 (lit< tt))
     (more (pair-bytes h.coarse f.coarse.fits)
@@ -67,8 +67,8 @@ returns c =
     (more (byte-bytes h.snapshot f.snapshot.fits)
     (more (pair-bytes h.number f.number.fits) none)))))))))))
 
-pub header-bytes-spec : {M : Type 1} → statement M
-header-bytes-spec =
+pub header_bytes_spec : {M : Type 1} → statement M
+header_bytes_spec =
     tie.close
     (tie.spec
     (λ c. search rules)

@@ -5,11 +5,11 @@ use borrow.Author.Tests.{le-leb, lt-leb}
 use Rattle.snapshot.proofs.is_in_range.Statement.{statement}
 use Rattle.snapshot.proofs.is_in_range.Tie as tie
 
-returns : tie.Need-returns
-returns c = simp (le-leb c.before.before.before.args.header.total 3072 (omega arith)) refl
+returns : tie.Need-returns-then-header-le-MOST_PACKETS
+returns c = simp (le-leb c.args.header.total 3072 (omega arith)) refl
 
-returns-2 : tie.Need-returns-2
-returns-2 c = simp (lt-leb c.before.before.args.header.total 3072 (omega arith))
+returns-2 : tie.Need-returns-else-header-le-MOST_PACKETS
+returns-2 c = simp (lt-leb c.args.header.total 3072 (omega arith))
 
-pub is-in-range-spec : {M : Type 1} → statement M
-is-in-range-spec = tie.close (tie.spec returns returns-2)
+pub is_in_range_spec : {M : Type 1} → statement M
+is_in_range_spec = tie.close (tie.spec returns returns-2)

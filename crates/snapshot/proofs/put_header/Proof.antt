@@ -15,33 +15,33 @@ use Rattle.snapshot.proofs.put_header.Tie as tie
 abbrev byte_of : List ℕ → ℕ → ℕ
 byte_of bytes i = get_or bytes i 0
 
-abbrev invariant-loop : tie.invariant-loop
+abbrev invariant-loop : tie.invariant-loop-i
 invariant-loop packet₀ bytes i₀ packet i =
     (i ≤ 20) × (20 ≤ length packet₀) × (length packet ≡ length packet₀) × (packet ≡ overwrite (tabulate i (byte_of bytes)) packet₀)
 
-abbrev decreases-loop : tie.decreases-loop
+abbrev decreases-loop : tie.decreases-loop-i
 decreases-loop packet₀ bytes i₀ packet i = 20 - i
 
-loop-holds : tie.Need-loop-init invariant-loop decreases-loop
-loop-holds c = (omega arith, c.before.before.requires, refl, table_none _ _)
+loop-holds : tie.Need-loop-i-init invariant-loop decreases-loop
+loop-holds c = (omega arith, c.requires, refl, table_none _ _)
 
-loop-again : tie.Need-loop-preserved invariant-loop decreases-loop
+loop-again : tie.Need-loop-i-preserved invariant-loop decreases-loop
 loop-again c =
-    let l = c.before.loop in
+    let l = c.loop-i in
     (omega arith, l.invariant.1, simp length-set l.invariant.2, table_more _ _ l.i _ 0 l.packet l.invariant.3 (omega arith) refl)
 
 returns : tie.Need-returns invariant-loop decreases-loop
 returns c =
-    let a = c.before.before.before.before.args in
-    let l = c.before.loop in
-    let made = c.before.before.header-bytes in
+    let a = c.args in
+    let l = c.loop-i in
+    let made = c.header_bytes-bytes in
     let e : l.i ≡ 20 = omega arith in
     let long : length made.result ≡ 20 = ap (λ (b : List ℕ). length b) made.ensures ∙ header-length a.header in
     l.invariant.3 ∙ ap (λ (n : ℕ). overwrite (tabulate n (byte_of made.result)) a.packet.now) e
     ∙ ap (λ (b : List ℕ). overwrite b a.packet.now) (sym (tabulate-of 20 (byte_of made.result) 0 made.result long (λ i h. refl)) ∙ made.ensures)
 
-pub put-header-spec : {M : Type 1} → statement M
-put-header-spec =
+pub put_header_spec : {M : Type 1} → statement M
+put_header_spec =
     tie.close
     (tie.spec
     invariant-loop
@@ -53,5 +53,5 @@ put-header-spec =
     (λ c. search rules)
     (λ c. search rules)
     loop-again
-    (λ c. c.before.loop.invariant.2)
+    (λ c. c.loop-i.invariant.2)
     returns)

@@ -8,13 +8,13 @@ use Rattle.snapshot.proofs.quad_at.Tie as tie
 
 returns : tie.Need-returns
 returns c =
-    let a = c.before.before.before.args in
-    ap₂ (λ (high low : ℕ). high * 65536 + low) (c.before.pair-at.ensures ∙ pair-number a.packet.now a.at)
-    (c.pair-at2.ensures ∙ pair-number a.packet.now (a.at + 2))
+    let a = c.args in
+    ap₂ (λ (high low : ℕ). high * 65536 + low) (c.pair_at.ensures ∙ pair-number a.packet.now a.at)
+    (c.pair_at-2.ensures ∙ pair-number a.packet.now (a.at + 2))
     ∙ sym (quad-number a.packet.now a.at)
 
-pub quad-at-spec : {M : Type 1} → statement M
-quad-at-spec =
+pub quad_at_spec : {M : Type 1} → statement M
+quad_at_spec =
     tie.close
     (tie.spec
     (λ c κs. search rules)

@@ -16,15 +16,15 @@ use Rattle.snapshot.proofs.Packets.{components-le}
 use Rattle.snapshot.proofs.read_header.Statement.{statement}
 use Rattle.snapshot.proofs.read_header.Tie as tie
 
-returns : tie.Need-returns
+returns : tie.Need-returns-then-packet-lt-HEADER
 unfolding header_found
-returns c = simp (lt-ltb (length c.before.before.args.packet.now) 20 (omega arith))
+returns c = simp (lt-ltb (length c.args.packet.now) 20 (omega arith))
 
-returns-2 : tie.Need-returns-2
+returns-2 : tie.Need-returns-then-not-is_snapshot
 unfolding header_found
 returns-2 c =
-    let packet = c.before.before.before.before.args.packet.now in
-    let other : is_snapshot packet ≡ false = sym c.before.is-snapshot.ensures ∙ not-true _ c.if2.true in
+    let packet = c.args.packet.now in
+    let other : is_snapshot packet ≡ false = sym c.is_snapshot.ensures ∙ not-true _ c.if-not-is_snapshot.true-raw in
     simp (le-ltb (length packet) 20 (omega arith), other)
 
 -- what is known where the header is read
@@ -33,55 +33,55 @@ record Known (packet : List ℕ) (h : Header) : Type 0 where
   is : is_snapshot packet ≡ true
   same : h ≡ header_in packet
 
-known : (c : tie.After-header-in) → Known c.before.before.before.before.before.args.packet.now c.header-in.result
+known : (c : tie.After-header_in-header) → Known c.args.packet.now c.header_in-header.result
 known c =
-    let packet = c.before.before.before.before.before.args.packet.now in
+    let packet = c.args.packet.now in
     record {
       long = le-ltb (length packet) 20 (omega arith);
-      is = sym c.before.before.is-snapshot.ensures ∙ not-false _ c.before.if2.false;
-      same = c.header-in.ensures;
+      is = sym c.is_snapshot.ensures ∙ not-false _ c.if-not-is_snapshot.false-raw;
+      same = c.header_in-header.ensures;
     }
 
-returns-3 : tie.Need-returns-3
+returns-3 : tie.Need-returns-then-not-is_in_range
 unfolding header_found
 returns-3 c =
     let k = known c.before.before in
-    let packet = c.before.before.before.before.before.before.before.args.packet.now in
-    let out : in_range (header_in packet) ≡ false = sym (ap in_range k.same) ∙ sym c.before.is_in_range.ensures ∙ not-true _ c.if3.true in
+    let packet = c.args.packet.now in
+    let out : in_range (header_in packet) ≡ false = sym (ap in_range k.same) ∙ sym c.is_in_range.ensures ∙ not-true _ c.if-not-is_in_range.true-raw in
     simp (k.long, k.is, out)
 
-few : (c : tie.After-sample-count) → c.sample-count.result ≤ 1024
-few c = omega (arith, c.sample-count.ensures, components-le c.before.before.before.header-in.result.mask)
+few : (c : tie.After-sample_count) → c.sample_count.result ≤ 1024
+few c = omega (arith, c.sample_count.ensures, components-le c.header_in-header.result.mask)
 
 -- the range, and the length of the packet by the mask
-range : (c : tie.After-sample-count) → in_range (header_in c.before.before.before.before.before.before.before.before.args.packet.now) ≡ true
+range : (c : tie.After-sample_count) → in_range (header_in c.args.packet.now) ≡ true
 range c =
-    sym (ap in_range (known c.before.before.before).same) ∙ sym c.before.before.is_in_range.ensures ∙ not-false _ c.before.if3.false
+    sym (ap in_range (known c.before.before.before).same) ∙ sym c.is_in_range.ensures ∙ not-false _ c.if-not-is_in_range.false-raw
 
-counted : (c : tie.After-sample-count) →
-    20 + 2 * c.sample-count.result ≡ packet_length (header_in c.before.before.before.before.before.before.before.before.args.packet.now).mask
+counted : (c : tie.After-sample_count) →
+    20 + 2 * c.sample_count.result ≡ packet_length (header_in c.args.packet.now).mask
 counted c =
-    ap (λ (n : ℕ). 20 + 2 * n) (c.sample-count.ensures ∙ ap (λ (h : Header). sample_count h.mask) (known c.before.before.before).same)
+    ap (λ (n : ℕ). 20 + 2 * n) (c.sample_count.ensures ∙ ap (λ (h : Header). sample_count h.mask) (known c.before.before.before).same)
 
-returns-4 : tie.Need-returns-4
+returns-4 : tie.Need-returns-then-packet-sample_count
 unfolding header_found
 returns-4 c =
     let k = known c.before.before.before.before in
-    let packet = c.before.before.before.before.before.before.before.before.before.args.packet.now in
+    let packet = c.args.packet.now in
     let odd : eqb (length packet) (packet_length (header_in packet).mask) ≡ false =
-    ne_eqb _ _ (λ e. c.if4.true (e ∙ sym (counted c.before))) in
+    ne_eqb _ _ (λ e. c.if-packet-sample_count.true (e ∙ sym (counted c.before))) in
     simp (k.long, k.is, range c.before, odd)
 
-returns-5 : tie.Need-returns-5
+returns-5 : tie.Need-returns
 unfolding header_found
 returns-5 c =
     let k = known c.before.before.before.before in
-    let packet = c.before.before.before.before.before.before.before.before.before.args.packet.now in
-    let whole : eqb (length packet) (packet_length (header_in packet).mask) ≡ true = eq-eqb _ _ (c.if4.false ∙ counted c.before) in
+    let packet = c.args.packet.now in
+    let whole : eqb (length packet) (packet_length (header_in packet).mask) ≡ true = eq-eqb _ _ (c.if-packet-sample_count.false ∙ counted c.before) in
     simp (k.long, k.is, range c.before, whole) (ap given k.same)
 
-pub read-header-spec : {M : Type 1} → statement M
-read-header-spec =
+pub read_header_spec : {M : Type 1} → statement M
+read_header_spec =
     tie.close
     (tie.spec
     returns

@@ -10,14 +10,14 @@ use Rattle.snapshot.proofs.sample_count.Tie as tie
 few : (c : tie.Start) → ones c.args.mask ≤ 8
 few c = ones-le 8 c.args.mask c.ranges.mask.fits
 
-cast-result : tie.Need-overflow-cast-result
+cast-result : tie.Need-overflow_cast-result
 cast-result c = omega (arith, few c)
 
-mul-result : tie.Need-overflow-mul-result
+mul-result : tie.Need-overflow_mul-result
 mul-result c = omega (arith, few c)
 
 returns : tie.Need-returns
 returns c = ap (λ (n : ℕ). 128 * n) (components-ones c.args.mask c.ranges.mask.fits)
 
-pub sample-count-spec : {M : Type 1} → statement M
-sample-count-spec = tie.close (tie.spec cast-result mul-result returns)
+pub sample_count_spec : {M : Type 1} → statement M
+sample_count_spec = tie.close (tie.spec cast-result mul-result returns)

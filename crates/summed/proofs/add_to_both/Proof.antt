@@ -28,42 +28,42 @@ module _ (t l : List ℕ) (pairs : List ℤ) (k : ℕ) (h : k < 1024) (one : tak
       drop-set-add 1024 (set l k x) k y ∙ ap (λ (run : List ℕ). set run k y) (drop-set-lt 1024 l k x h)
       ∙ table_more (sum_at (drop 1024 t) pairs) (drop 1024 t) k y 0 (drop 1024 l) two room is
 
-abbrev invariant-loop : tie.invariant-loop
+abbrev invariant-loop : tie.invariant-loop-k
 invariant-loop totals₀ pairs k₀ totals k =
     (k ≤ 1024) × (length totals ≡ 2048) × (take 1024 totals ≡ added_to k (take 1024 totals₀) pairs) × (drop 1024 totals ≡ added_to k (drop 1024 totals₀) pairs)
 
-abbrev decreases-loop : tie.decreases-loop
+abbrev decreases-loop : tie.decreases-loop-k
 decreases-loop totals₀ pairs k₀ totals k = 1024 - k
 
 all-length : (c : tie.Start invariant-loop decreases-loop) → length c.args.totals.now ≡ 2048
 all-length c = omega (arith, length-drop 1024 c.args.totals.now, c.requires.1.run_length)
 
-loop-holds : tie.Need-loop-init invariant-loop decreases-loop
+loop-holds : tie.Need-loop-k-init invariant-loop decreases-loop
 loop-holds c = (omega arith, all-length c.before, table_none _ _, table_none _ _)
 
-add-totals : tie.Need-overflow-add-totals invariant-loop decreases-loop
+add-totals : tie.Need-overflow_add-totals invariant-loop decreases-loop
 add-totals c =
     let start = c.before.before.before.before.before.before.before in
-    let l = c.before.before.before.before.before.loop in
+    let l = c.loop-k in
     let kept = first_next start.args.totals.now l.totals start.args.pairs.now l.k (omega arith) l.invariant.2 l.invariant.3 in
-    omega (arith, kept, start.requires.0.small l.k (omega arith), c.before.power.ensures.1)
+    omega (arith, kept, start.requires.0.small l.k (omega arith), c.power-added.ensures.1)
 
-add-totals-3 : tie.Need-overflow-add-totals-3 invariant-loop decreases-loop
+add-totals-3 : tie.Need-overflow_add-totals-in-loop-k-2 invariant-loop decreases-loop
 add-totals-3 c =
     let start = c.before.before.before.before.before.before.before.before in
-    let l = c.before.before.before.before.before.before.loop in
+    let l = c.loop-k in
     let kept = second-next start.args.totals.now l.totals start.args.pairs.now l.k (omega arith) l.invariant.2 l.invariant.3
-    (get_or l.totals l.k 0 + c.before.before.power.result) in
-    omega (arith, kept, start.requires.1.small l.k (omega arith), c.before.before.power.ensures.1)
+    (get_or l.totals l.k 0 + c.power-added.result) in
+    omega (arith, kept, start.requires.1.small l.k (omega arith), c.power-added.ensures.1)
 
-loop-again : tie.Need-loop-preserved invariant-loop decreases-loop
+loop-again : tie.Need-loop-k-preserved invariant-loop decreases-loop
 loop-again c =
     let start = c.before.before.before.before.before.before.before.before in
     let t = start.args.totals.now in
     let pairs = start.args.pairs.now in
-    let l = c.before.before.before.before.before.before.loop in
+    let l = c.loop-k in
     let h : l.k < 1024 = omega arith in
-    let added = power-is pairs l.k c.before.before.before.before.power-arg.given c.before.before.before.power-arg2.given c.before.before.power.ensures.0 in (
+    let added = power-is pairs l.k c.power-arg-1.given c.power-arg-in-loop-k-1.given c.power-added.ensures.0 in (
       omega arith,
       simp length-set l.invariant.1,
       first_more t l.totals pairs l.k h l.invariant.2 l.invariant.3 _ _ (omega arith) (ap₂ ◌+◌ (first_next t l.totals pairs l.k h l.invariant.2 l.invariant.3) added),
@@ -75,14 +75,14 @@ returns c =
     let start = c.before.before.before in
     let t = start.args.totals.now in
     let pairs = start.args.pairs.now in
-    let l = c.before.loop in
+    let l = c.loop-k in
     let all : l.k ≡ 1024 = omega arith in
     sym (take-append-drop 1024 l.totals)
     ∙ ap₂ ◌++◌ (l.invariant.2 ∙ added-all l.k (take 1024 t) pairs all start.requires.0.run_length)
     (l.invariant.3 ∙ added-all l.k (drop 1024 t) pairs all start.requires.1.run_length)
 
-pub add-to-both-spec : {M : Type 1} → statement M
-add-to-both-spec =
+pub add_to_both_spec : {M : Type 1} → statement M
+add_to_both_spec =
     tie.close
     (tie.spec
     invariant-loop
@@ -109,5 +109,5 @@ add-to-both-spec =
     (λ c. omega arith)
     (λ c. omega arith)
     loop-again
-    (λ c. c.before.loop.invariant.1 ∙ sym (all-length c.before.before.before))
+    (λ c. c.loop-k.invariant.1 ∙ sym (all-length c.before.before.before))
     returns)

@@ -26,67 +26,67 @@ second-ready s totals pairs r =
     }
 
 -- the totals that are due, by what the tests of the two masks gave
-due : (c : tie.After-has-component2) (x y : Bool) → c.has-component2.result ≡ x → c.before.has-component.result ≡ y →
-    let a = c.before.before.before.args in
+due : (c : tie.After-has_component) (x y : Bool) → c.has_component.result ≡ x → c.has_component-is_second.result ≡ y →
+    let a = c.args in
     totals_with a.state a.pairs.now a.totals.now
     ≡ cond x (added_run (take 1024 a.totals.now) a.pairs.now) (take 1024 a.totals.now)
     ++ cond y (added_run (drop 1024 a.totals.now) a.pairs.now) (drop 1024 a.totals.now)
 unfolding totals_with
 due c x y e f =
-    let s = c.before.before.before.args.state in
-    let one : has_component s.first s.next ≡ x = sym c.has-component2.ensures ∙ e in
-    let two : has_component s.second s.next ≡ y = sym c.before.has-component.ensures ∙ f in
+    let s = c.args.state in
+    let one : has_component s.first s.next ≡ x = sym c.has_component.ensures ∙ e in
+    let two : has_component s.second s.next ≡ y = sym c.has_component-is_second.ensures ∙ f in
     rw (one, two)
 
-add-to-both-requires : tie.Need-add-to-both-requires
+add-to-both-requires : tie.Need-add_to_both-requires
 add-to-both-requires c κs =
     let start = c.before.before.before.before.before.before in
     let a = start.args in
     (first-ready a.state a.totals.now a.pairs.now start.requires, second-ready a.state a.totals.now a.pairs.now start.requires)
 
-slice-aggregate-add-powers : tie.Need-slice-aggregate-add-powers
-slice-aggregate-add-powers c = sym (length-take-le 1024 c.before.before.before.before.before.before.args.totals.now (omega arith))
+slice-aggregate-add-powers : tie.Need-slice_bounds-add_powers-end-else-is_second
+slice-aggregate-add-powers c = sym (length-take-le 1024 c.args.totals.now (omega arith))
 
-add-powers-requires : tie.Need-add-powers-requires
+add-powers-requires : tie.Need-add_powers-requires
 add-powers-requires c κs =
     let start = c.before.before.before.before.before.before in
     let a = start.args in
     first-ready a.state a.totals.now a.pairs.now start.requires
 
-add-powers-requires-2 : tie.Need-add-powers-requires-2
+add-powers-requires-2 : tie.Need-add_powers-requires-then-is_second-2
 add-powers-requires-2 c κs =
     let start = c.before.before.before.before.before.before in
     let a = start.args in
     rw (from_on 1024 a.totals.now) (second-ready a.state a.totals.now a.pairs.now start.requires)
 
-returns : tie.Need-returns
+returns : tie.Need-returns-then-is_second
 returns c =
     let tested = c.before.before.before.before.before.before in
-    c.before.before.add-to-both.ensures ∙ sym (due tested true true c.before.before.before.before.before.if1.true c.before.before.before.before.if2.true)
+    c.add_to_both.ensures ∙ sym (due tested true true c.if-has_component.true c.if-is_second.true)
 
-returns-2 : tie.Need-returns-2
+returns-2 : tie.Need-returns-else-is_second
 returns-2 c =
     let tested = c.before.before.before.before.before.before in
-    let l = tested.before.before.before.args.totals.now in
-    ap (λ (run : List ℕ). run ++ drop 1024 l) c.before.before.add-powers.ensures
-    ∙ sym (due tested true false c.before.before.before.before.before.if1.true c.before.before.before.before.if2.false)
+    let l = tested.args.totals.now in
+    ap (λ (run : List ℕ). run ++ drop 1024 l) c.add_powers.ensures
+    ∙ sym (due tested true false c.if-has_component.true c.if-is_second.false)
 
-returns-3 : tie.Need-returns-3
+returns-3 : tie.Need-returns-then-is_second-2
 returns-3 c =
     let tested = c.before.before.before.before.before.before in
-    let a = tested.before.before.before.args in
+    let a = tested.args in
     let l = a.totals.now in
-    let second : c.before.before.add-powers2.new.0 ≡ added_run (drop 1024 l) a.pairs.now = rw (from_on 1024 l) at c.before.before.add-powers2.ensures in
-    behind-put 1024 c.before.before.add-powers2.new.0 l ∙ ap (λ (run : List ℕ). take 1024 l ++ run) second
-    ∙ sym (due tested false true c.before.before.before.before.before.if1.false c.before.before.before.before.if3.true)
+    let second : c.add_powers-then-is_second-2.new.run ≡ added_run (drop 1024 l) a.pairs.now = rw (from_on 1024 l) at c.add_powers-then-is_second-2.ensures in
+    behind-put 1024 c.add_powers-then-is_second-2.new.run l ∙ ap (λ (run : List ℕ). take 1024 l ++ run) second
+    ∙ sym (due tested false true c.if-has_component.false c.if-is_second-2.true)
 
-returns-4 : tie.Need-returns-4
+returns-4 : tie.Need-returns-else-is_second-2
 returns-4 c =
     let tested = c.before.before in
-    sym (due tested false false c.before.if1.false c.if3.false ∙ take-append-drop 1024 tested.before.before.before.args.totals.now)
+    sym (due tested false false c.if-has_component.false c.if-is_second-2.false ∙ take-append-drop 1024 tested.args.totals.now)
 
-pub add-to-runs-spec : {M : Type 1} → statement M
-add-to-runs-spec =
+pub add_to_runs_spec : {M : Type 1} → statement M
+add_to_runs_spec =
     tie.close
     (tie.spec
     (λ c κs. search rules)

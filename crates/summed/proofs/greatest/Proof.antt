@@ -17,8 +17,8 @@ few c =
 returns : tie.Need-returns
 returns c = ap (λ (x : ℕ). x * 2 ^ 31) (ap (λ (p : ℕ). ones (c.args.mask % p)) (power c) ∙ counted-ones c.args.mask c.args.n)
 
-pub greatest-spec : {M : Type 1} → statement M
-greatest-spec =
+pub greatest_spec : {M : Type 1} → statement M
+greatest_spec =
     tie.close
     (tie.spec
     (λ c. search rules)

@@ -6,5 +6,5 @@ use Rattle.summed.proofs.has_component.Tie as tie
 returns : tie.Need-returns
 returns c = refl
 
-pub has-component-spec : {M : Type 1} → statement M
-has-component-spec = tie.close (tie.spec (λ c. search rules) returns)
+pub has_component_spec : {M : Type 1} → statement M
+has_component_spec = tie.close (tie.spec (λ c. search rules) returns)

@@ -6,27 +6,27 @@ use Rattle.summed.proofs.Laws.{from_on}
 use Rattle.summed.proofs.is_sound.Statement.{statement}
 use Rattle.summed.proofs.is_sound.Tie as tie
 
-returns : tie.Need-returns
+returns : tie.Need-returns-then-n-ge-COMPONENTS
 unfolding sound
-returns c = simp (le-ltb c.before.before.args.state.next 8 (omega arith))
+returns c = simp (le-ltb c.args.state.next 8 (omega arith))
 
-slice-aggregate-run-sound : tie.Need-slice-aggregate-run-sound
-slice-aggregate-run-sound c = sym (length-take-le 1024 c.before.before.before.args.totals.now (omega arith))
+slice-aggregate-run-sound : tie.Need-slice_bounds-run_sound-end
+slice-aggregate-run-sound c = sym (length-take-le 1024 c.args.totals.now (omega arith))
 
-run-sound-requires : tie.Need-run-sound-requires
-run-sound-requires c κs = (omega arith, length-take-le 1024 c.before.before.before.args.totals.now (omega arith))
+run-sound-requires : tie.Need-run_sound-requires
+run-sound-requires c κs = (omega arith, length-take-le 1024 c.args.totals.now (omega arith))
 
-returns-2 : tie.Need-returns-2
+returns-2 : tie.Need-returns
 unfolding sound
 returns-2 c =
-    let a = c.before.before.before.before.before.before.args in
+    let a = c.args in
     let place : ltb a.state.next 8 ≡ true = lt-ltb a.state.next 8 (omega arith) in
-    let second : c.run-sound2.result ≡ run_sound a.state.second a.state.next (drop 1024 a.totals.now) =
-    c.run-sound2.ensures ∙ ap (run_sound a.state.second a.state.next) (from_on 1024 a.totals.now) in
-    simp place (ap₂ ◌&&◌ c.before.before.run_sound.ensures second)
+    let second : c.run_sound-2.result ≡ run_sound a.state.second a.state.next (drop 1024 a.totals.now) =
+    c.run_sound-2.ensures ∙ ap (run_sound a.state.second a.state.next) (from_on 1024 a.totals.now) in
+    simp place (ap₂ ◌&&◌ c.run_sound.ensures second)
 
-pub is-sound-spec : {M : Type 1} → statement M
-is-sound-spec =
+pub is_sound_spec : {M : Type 1} → statement M
+is_sound_spec =
     tie.close
     (tie.spec
     returns

@@ -5,15 +5,15 @@ use Rattle.summed.specs.Component.{square}
 use Rattle.summed.proofs.power.Statement.{statement}
 use Rattle.summed.proofs.power.Tie as tie
 
-add-result : tie.Need-overflow-add-result
-add-result c = omega (arith, c.before.square.ensures.1, c.square2.ensures.1)
+add-result : tie.Need-overflow_add-result
+add-result c = omega (arith, c.square.ensures.1, c.square-2.ensures.1)
 
 returns : tie.Need-returns
 returns c =
     let start = c.before.before in
-    let re : c.before.square.result ≡ square start.args.re = c.before.square.ensures.0 ∙ ap square (to_z-of_z w16 start.args.re start.ranges.re) in
-    let im : c.square2.result ≡ square start.args.im = c.square2.ensures.0 ∙ ap square (to_z-of_z w16 start.args.im start.ranges.im) in
-    (ap₂ ◌+◌ re im, omega (arith, c.before.square.ensures.1, c.square2.ensures.1))
+    let re : c.square.result ≡ square start.args.re = c.square.ensures.0 ∙ ap square (to_z-of_z w16 start.args.re start.ranges.re) in
+    let im : c.square-2.result ≡ square start.args.im = c.square-2.ensures.0 ∙ ap square (to_z-of_z w16 start.args.im start.ranges.im) in
+    (ap₂ ◌+◌ re im, omega (arith, c.square.ensures.1, c.square-2.ensures.1))
 
-pub power-spec : {M : Type 1} → statement M
-power-spec = tie.close (tie.spec (λ c κs. search rules) (λ c κs. search rules) add-result returns)
+pub power_spec : {M : Type 1} → statement M
+power_spec = tie.close (tie.spec (λ c κs. search rules) (λ c κs. search rules) add-result returns)
