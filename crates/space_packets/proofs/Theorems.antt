@@ -29,7 +29,7 @@ use Rattle.space_packets.specs.declared.Primary.{Primary}
 use Rattle.space_packets.specs.declared.PacketHeader.{PacketHeader}
 use Rattle.space_packets.specs.Packet.{primary_bytes, primary_in, stated, packet_bytes, is_stated, is_whole, most_samples, packet_count, samples_of, count_of, packets_bytes, packets_length}
 use Rattle.space_packets.specs.Calls.{header_found, header_taken, header_of_sets, Found, ImportLeft, sample_count, samples_imported, packet_imported, Sent, ExportLeft, are_sets, sets_exported, exported_sets, packets_exported}
-use Rattle.space_packets.specs.Claims.{Makes, imported_as, ImportExactly, IsFull, FullButLast, WholeSets, EachWhole, AllSamples, CountsRise, Sends, ExportExactly, packets_in, Got, got_by, got_from, ExportImported, ImportExported, RefusedImportUnchanged, RefusedExportUnchanged, ImportRoom, ExportRoom, ExportApidRefused, FirstCountRefused, SamplesRefused, ShortBytesRefused, ShortPacketRefused, ImportApidRefused, FieldRefused, DataRefused, ShortSamplesRefused, header_of, HeaderAlone, RestStays, before, samples_got, AllImported, Taken, TakenExactly}
+use Rattle.space_packets.specs.Claims.{Makes, imported_as, ImportExactly, FullButLast, EachWhole, AllSamples, CountsRise, Sends, ExportExactly, packets_in, Got, got_by, got_from, ExportImported, ImportExported, RefusedImportUnchanged, RefusedExportUnchanged, ImportRoom, ExportRoom, ExportApidRefused, FirstCountRefused, SamplesRefused, ShortBytesRefused, ShortPacketRefused, ImportApidRefused, FieldRefused, DataRefused, ShortSamplesRefused, header_of, HeaderAlone, RestStays, before, samples_got, AllImported, Taken, TakenExactly}
 use Rattle.space_packets.proofs.Headers.{primary-length, primary-fits, primary-bytes-return, set-sizes-fit, set-over, is-stated, Whole, is-whole, whole_is, whole-samples, Accepted, accepted, accepts}
 use Rattle.space_packets.proofs.Parts.{left-for, full-before, one-packet, at_most, samples-all, part_length, part-some, part-most}
 use Rattle.space_packets.proofs.Packets.{Most, most-of, packet-length, header-of-packet, packets-all, ends, packet_at, bytes-all, one-bytes}

@@ -8,7 +8,7 @@ use Rattle.fields.specs.BitFields.{width_of, FitWidths}
 use Rattle.space_packets.specs.declared.Primary.{Primary}
 use Rattle.space_packets.specs.declared.PacketHeader.{PacketHeader}
 use Rattle.space_packets.specs.Packet.{widths, field_numbers, primary_bytes, primary_in, stated, packet_bytes, most_samples, packet_count, samples_of, count_of, packets_length}
-use Rattle.space_packets.specs.Calls.{header_taken, header_found, Found, ImportLeft, packet_imported, Sent, ExportLeft, packets_exported}
+use Rattle.space_packets.specs.Calls.{header_taken, header_found, Found, ImportLeft, packet_imported, Sent, packets_exported}
 
 -- ---- the primary header: one definition for both directions
 

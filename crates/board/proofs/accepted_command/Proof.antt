@@ -10,10 +10,10 @@ use Rattle.board.proofs.accepted_command.Tie as tie
 
 returns : tie.Need-returns
 returns c =
-    let a = c.before.before.before.args in
-    let left = c.before.write.ensures ∙ write-takes a.state.registers a.id a.information c.before.before.before.requires.0 c.before.before.before.requires.1 in
+    let a = c.args in
+    let left = c.write-write.ensures ∙ write-takes a.state.registers a.id a.information c.requires.0 c.requires.1 in
     ap₂ (λ (x : Answer) (r : Registers). record { answer = x; state = record { registers = r; phase = 0; reports = 0 } })
     (answer-given _ _ (ap (λ (o : WriteOutcome). o.answer) left)) (ap (λ (o : WriteOutcome). o.registers) left)
 
-pub accepted-command-spec : {M : Type 1} → statement M
-accepted-command-spec = tie.close (tie.spec (λ c κs. search rules) returns)
+pub accepted_command_spec : {M : Type 1} → statement M
+accepted_command_spec = tie.close (tie.spec (λ c κs. search rules) returns)

@@ -6,5 +6,5 @@ use Rattle.board.proofs.are_lengths.Tie as tie
 returns : tie.Need-returns
 returns c = refl
 
-pub are-lengths-spec : {M : Type 1} → statement M
-are-lengths-spec = tie.close (tie.spec returns)
+pub are_lengths_spec : {M : Type 1} → statement M
+are_lengths_spec = tie.close (tie.spec returns)

@@ -11,19 +11,19 @@ use Rattle.board.proofs.are_within.Statement.{statement}
 use Rattle.board.proofs.are_within.Tie as tie
 
 -- what the call found
-found : (c : tie.After-totals-within) →
-    limits_outcome c.totals-within.result ≡ given (totals_within c.before.before.args.registers c.before.before.args.spectra c.before.before.args.totals.now)
-found c = let a = c.before.before.args in c.totals-within.ensures ∙ within-784 a.registers a.spectra a.totals.now c.before.before.requires
+found : (c : tie.After-totals_within) →
+    limits_outcome c.totals_within.result ≡ given (totals_within c.args.registers c.args.spectra c.args.totals.now)
+found c = let a = c.args in c.totals_within.ensures ∙ within-784 a.registers a.spectra a.totals.now c.requires
 
-returns : tie.Need-returns
-returns c = given-same _ _ (sym (ap limits_outcome c.enum_told.given.1) ∙ found c.before.before)
+returns : tie.Need-returns-in-Within
+returns c = given-same _ _ (sym (ap limits_outcome c.in-Within.is) ∙ found c.before)
 
-returns-2 : tie.Need-returns-2
-returns-2 c = given-same _ _ (sym (ap limits_outcome c.enum-told2.given.1) ∙ found c.before.before)
+returns-2 : tie.Need-returns-in-Over
+returns-2 c = given-same _ _ (sym (ap limits_outcome c.in-Over.is) ∙ found c.before)
 
-returns-3 : tie.Need-returns-3
-returns-3 c = absurd (refused-given _ _ (sym (ap limits_outcome c.enum-told3.given.1) ∙ found c.before.before))
+returns-3 : tie.Need-returns-in-Refused
+returns-3 c = absurd (refused-given _ _ (sym (ap limits_outcome c.in-Refused.is) ∙ found c.before))
 
-pub are-within-spec : {M : Type 1} → statement M
-are-within-spec =
+pub are_within_spec : {M : Type 1} → statement M
+are_within_spec =
     tie.close (tie.spec (λ c κs. search rules) (λ c. search rules) (λ c. search rules) (λ c. search rules) returns returns-2 returns-3)

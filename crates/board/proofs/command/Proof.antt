@@ -9,42 +9,42 @@ use Rattle.model.proofs.Sound.{sound-parts}
 use Rattle.board.proofs.command.Statement.{statement}
 use Rattle.board.proofs.command.Tie as tie
 
-returns : tie.Need-returns
+returns : tie.Need-returns-then-totals-ne-TOTALS
 unfolding command_outcome
-returns c = simp (ne_eqb _ _ c.before.if1.true, c.refused-command.ensures)
+returns c = simp (ne_eqb _ _ c.if-totals-ne-TOTALS.true, c.refused_command.ensures)
 
-returns-2 : tie.Need-returns-2
+returns-2 : tie.Need-returns-then-not-is_sound
 unfolding command_outcome
 returns-2 c =
-    let a = c.before.before.before.before.before.before.before.before.args in
-    let unsound : state_sound a.state a.totals.now ≡ false = sym c.before.before.is-sound.ensures ∙ not-true _ c.before.if2.true in
-    simp (eq-eqb _ _ c.before.before.before.before.before.before.if1.false, unsound, c.refused-command2.ensures)
+    let a = c.args in
+    let unsound : state_sound a.state a.totals.now ≡ false = sym c.is_sound.ensures ∙ not-true _ c.if-not-is_sound.true-raw in
+    simp (eq-eqb _ _ c.if-totals-ne-TOTALS.false, unsound, c.refused_command-then-not-is_sound.ensures)
 
-returns-3 : tie.Need-returns-3
+returns-3 : tie.Need-returns-then-not-is_id
 unfolding command_outcome
 returns-3 c =
-    let a = c.before.before.before.before.before.before.before.before.before.before.args in
-    let sound : state_sound a.state a.totals.now ≡ true = sym c.before.before.before.before.is-sound.ensures ∙ not-false _ c.before.before.before.if2.false in
-    let unknown : is_id a.id ≡ false = sym c.before.before.is-id.ensures ∙ not-true _ c.before.if3.true in
-    simp (eq-eqb _ _ c.before.before.before.before.before.before.before.before.if1.false, sound, unknown, c.refused-command3.ensures)
+    let a = c.args in
+    let sound : state_sound a.state a.totals.now ≡ true = sym c.is_sound.ensures ∙ not-false _ c.if-not-is_sound.false-raw in
+    let unknown : is_id a.id ≡ false = sym c.is_id.ensures ∙ not-true _ c.if-not-is_id.true-raw in
+    simp (eq-eqb _ _ c.if-totals-ne-TOTALS.false, sound, unknown, c.refused_command-then-not-is_id.ensures)
 
-accepted-command-requires : tie.Need-accepted-command-requires
+accepted-command-requires : tie.Need-accepted_command-requires
 accepted-command-requires c κs =
-    let a = c.before.before.before.before.before.before.before.before.before.before.before.before.before.args in
-    let sound : state_sound a.state a.totals.now ≡ true = sym c.before.before.before.before.before.before.before.is-sound.ensures ∙ not-false _ c.before.before.before.before.before.before.if2.false in
-    ((sound-parts a.state a.totals.now sound).registers, sym c.before.before.before.before.before.is-id.ensures ∙ not-false _ c.before.before.before.before.if3.false)
+    let a = c.args in
+    let sound : state_sound a.state a.totals.now ≡ true = sym c.is_sound.ensures ∙ not-false _ c.if-not-is_sound.false-raw in
+    ((sound-parts a.state a.totals.now sound).registers, sym c.is_id.ensures ∙ not-false _ c.if-not-is_id.false-raw)
 
-returns-4 : tie.Need-returns-4
+returns-4 : tie.Need-returns
 unfolding command_outcome
 returns-4 c =
-    let a = c.before.before.before.before.before.before.before.before.before.before.before.before.before.before.args in
-    let sound : state_sound a.state a.totals.now ≡ true = sym c.before.before.before.before.before.before.before.before.is-sound.ensures ∙ not-false _ c.before.before.before.before.before.before.before.if2.false in
-    let known : is_id a.id ≡ true = sym c.before.before.before.before.before.before.is-id.ensures ∙ not-false _ c.before.before.before.before.before.if3.false in
-    let long = c.before.before.before.before.before.before.before.before.before.before.before.before.if1.false in
-    simp (eq-eqb _ _ long, sound, known, c.accepted-command.ensures, c.before.before.before.clear.ensures)
+    let a = c.args in
+    let sound : state_sound a.state a.totals.now ≡ true = sym c.is_sound.ensures ∙ not-false _ c.if-not-is_sound.false-raw in
+    let known : is_id a.id ≡ true = sym c.is_id.ensures ∙ not-false _ c.if-not-is_id.false-raw in
+    let long = c.if-totals-ne-TOTALS.false in
+    simp (eq-eqb _ _ long, sound, known, c.accepted_command.ensures, c.clear.ensures)
 
-pub command-spec : {M : Type 1} → statement M
-command-spec =
+pub command_spec : {M : Type 1} → statement M
+command_spec =
     tie.close
     (tie.spec
     (λ c κs. search rules)

@@ -7,20 +7,20 @@ use borrow.Author.Rules.{rules}
 use Rattle.board.proofs.is_period_sound.Statement.{statement}
 use Rattle.board.proofs.is_period_sound.Tie as tie
 
-returns : tie.Need-returns
+returns : tie.Need-returns-then-running
 unfolding period_sound phase_sound reports_sound
 returns c =
-    let s = c.before.before.before.args.state in
+    let s = c.args.state in
     rw (
-      ← c.before.before.before.requires,
-      c.before.before.if1.true,
-      c.before.period-ticks.ensures,
+      ← c.requires,
+      c.if-running.true,
+      c.period_ticks.ensures,
       and-true (ltb s.phase (period_ticks s.registers)),
     )
 
-returns-2 : tie.Need-returns-2
+returns-2 : tie.Need-returns-else-running
 unfolding period_sound phase_sound reports_sound
-returns-2 c = rw (← c.before.before.before.requires, c.before.before.if1.false)
+returns-2 c = rw (← c.requires, c.if-running.false)
 
-pub is-period-sound-spec : {M : Type 1} → statement M
-is-period-sound-spec = tie.close (tie.spec (λ c κs. search rules) returns returns-2)
+pub is_period_sound_spec : {M : Type 1} → statement M
+is_period_sound_spec = tie.close (tie.spec (λ c κs. search rules) returns returns-2)

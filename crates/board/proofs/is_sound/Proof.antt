@@ -5,34 +5,34 @@ use borrow.Author.Rules.{rules}
 use Rattle.board.proofs.is_sound.Statement.{statement}
 use Rattle.board.proofs.is_sound.Tie as tie
 
-returns : tie.Need-returns
+returns : tie.Need-returns-then-not-is_sound
 unfolding state_sound
-returns c = rw (← c.before.is-sound.ensures, not-true c.before.is-sound.result c.if1.true)
+returns c = rw (← c.is_sound.ensures, not-true c.is_sound.result c.if-not-is_sound.true-raw)
 
-returns-2 : tie.Need-returns-2
+returns-2 : tie.Need-returns-then-not-is_period_sound
 unfolding state_sound
 returns-2 c =
     rw (
-      ← c.before.before.before.is-sound.ensures,
-      not-false c.before.before.before.is-sound.result c.before.before.if1.false,
-      ← c.before.is-period-sound.ensures,
-      not-true c.before.is-period-sound.result c.if2.true,
+      ← c.is_sound.ensures,
+      not-false c.is_sound.result c.if-not-is_sound.false-raw,
+      ← c.is_period_sound.ensures,
+      not-true c.is_period_sound.result c.if-not-is_period_sound.true-raw,
     )
 
-returns-3 : tie.Need-returns-3
+returns-3 : tie.Need-returns
 unfolding state_sound
 returns-3 c =
     rw (
-      ← c.before.before.before.before.before.is-sound.ensures,
-      not-false c.before.before.before.before.before.is-sound.result c.before.before.before.before.if1.false,
-      ← c.before.before.before.is-period-sound.ensures,
-      not-false c.before.before.before.is-period-sound.result c.before.before.if2.false,
-      ← c.before.spectra-held.ensures,
+      ← c.is_sound.ensures,
+      not-false c.is_sound.result c.if-not-is_sound.false-raw,
+      ← c.is_period_sound.ensures,
+      not-false c.is_period_sound.result c.if-not-is_period_sound.false-raw,
+      ← c.spectra_held.ensures,
     )
-    c.are-within.ensures
+    c.are_within.ensures
 
-pub is-sound-spec : {M : Type 1} → statement M
-is-sound-spec =
+pub is_sound_spec : {M : Type 1} → statement M
+is_sound_spec =
     tie.close
     (tie.spec
     (λ c κs. search rules)

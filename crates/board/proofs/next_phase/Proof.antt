@@ -6,11 +6,11 @@ use borrow.Author.Rules.{rules}
 use Rattle.board.proofs.next_phase.Statement.{statement}
 use Rattle.board.proofs.next_phase.Tie as tie
 
-returns : tie.Need-returns
-returns c = rw (eq-eqb c.before.args.phase (c.before.args.period - 1) (omega arith))
+returns : tie.Need-returns-then-phase-period
+returns c = rw (eq-eqb c.args.phase (c.args.period - 1) (omega arith))
 
-returns-2 : tie.Need-returns-2
-returns-2 c = rw (ne_eqb c.before.args.phase (c.before.args.period - 1) (λ e. omega (arith, c.if1.false e)))
+returns-2 : tie.Need-returns-else-phase-period
+returns-2 c = rw (ne_eqb c.args.phase (c.args.period - 1) (λ e. omega (arith, c.if-phase-period.false e)))
 
-pub next-phase-spec : {M : Type 1} → statement M
-next-phase-spec = tie.close (tie.spec (λ c. search rules) (λ c. search rules) returns returns-2)
+pub next_phase_spec : {M : Type 1} → statement M
+next_phase_spec = tie.close (tie.spec (λ c. search rules) (λ c. search rules) returns returns-2)

@@ -6,15 +6,15 @@ use borrow.Author.Rules.{rules}
 use Rattle.board.proofs.report_counted.Statement.{statement}
 use Rattle.board.proofs.report_counted.Tie as tie
 
-returns : tie.Need-returns
+returns : tie.Need-returns-then-before-lt65535
 returns c =
-    let s = c.before.before.args.state in
+    let s = c.args.state in
     ap (λ (n : ℕ). record { registers = s.registers; phase = s.phase; reports = n }) (omega arith)
 
-returns-2 : tie.Need-returns-2
+returns-2 : tie.Need-returns-else-before-lt65535
 returns-2 c =
-    let s = c.before.before.args.state in
+    let s = c.args.state in
     ap (λ (n : ℕ). record { registers = s.registers; phase = s.phase; reports = n }) (omega arith)
 
-pub report-counted-spec : {M : Type 1} → statement M
-report-counted-spec = tie.close (tie.spec (λ c. search rules) returns returns-2)
+pub report_counted_spec : {M : Type 1} → statement M
+report_counted_spec = tie.close (tie.spec (λ c. search rules) returns returns-2)

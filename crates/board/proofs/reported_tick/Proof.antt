@@ -10,21 +10,21 @@ use borrow.Author.Rules.{rules}
 use Rattle.board.proofs.reported_tick.Statement.{statement}
 use Rattle.board.proofs.reported_tick.Tie as tie
 
-returns : tie.Need-returns
+returns : tie.Need-returns-in-Words
 returns c =
-    let a = c.before.before.before.args in
-    let e = sym c.before.words.given.1 in
+    let a = c.args in
+    let e = sym c.in-Words.is in
     (ap (λ (w : WordCount). report_reply (word_count_outcome w)) e, ap (λ (w : WordCount). report_state (word_count_outcome w) a.state a.next) e)
 
-returns-2 : tie.Need-returns-2
+returns-2 : tie.Need-returns-in-Refused
 returns-2 c =
-    let a = c.before.before.before.before.args in
-    let e = sym c.before.before.words2.given.1 in
-    let t = c.refused-tick.ensures in (
+    let a = c.args in
+    let e = sym c.in-Refused.is in
+    let t = c.refused_tick.ensures in (
       ap (λ (r : Ticked). tick_reply r.answer) t ∙ ap (λ (w : WordCount). report_reply (word_count_outcome w)) e,
       ap (λ (r : Ticked). r.state) t ∙ ap (λ (w : WordCount). report_state (word_count_outcome w) a.state a.next) e,
     )
 
-pub reported-tick-spec : {M : Type 1} → statement M
-reported-tick-spec =
+pub reported_tick_spec : {M : Type 1} → statement M
+reported_tick_spec =
     tie.close (tie.spec (λ c. search rules) (λ c. search rules) (λ c κs. search rules) returns returns-2)

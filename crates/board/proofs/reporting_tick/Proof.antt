@@ -19,43 +19,43 @@ use borrow.Author.Rules.{rules}
 use Rattle.board.proofs.reporting_tick.Statement.{statement}
 use Rattle.board.proofs.reporting_tick.Tie as tie
 
-powers-fit : (c : tie.After-shared-slice-known) → Powers c.before.before.args.powers.now
-powers-fit c i = omega (arith, c.shared-slice-known.given i)
+powers-fit : (c : tie.After-shared_slice_known-1) → Powers c.args.powers.now
+powers-fit c i = omega (arith, c.shared_slice_known-1.given i)
 
-means : (c : tie.After-shared-slice-known) →
-    NoMeanOver c.before.before.args.state.registers (slot (added c.before.before.args.state.registers c.before.before.args.totals.now c.before.before.args.powers.now))
+means : (c : tie.After-shared_slice_known-1) →
+    NoMeanOver c.args.state.registers (slot (added c.args.state.registers c.args.totals.now c.args.powers.now))
 means c =
-    let a = c.before.before.args in
-    let p = c.before.before.requires in
+    let a = c.args in
+    let p = c.requires in
     means-within a.state a.totals.now a.powers.now p.0.sound-state (powers-fit c) p.0.is-running p.1.0
 
 clear-requires : tie.Need-clear-requires
 clear-requires c κs =
-    let a = c.before.before.before.before.before.before.before.before.before.before.before.before.before.before.args in
-    let t = c.before.before.before.before.before.before.before.before.before.before.before.before.before.before.requires.0 in
-    ap length (sums-here a.state a.totals.now a.powers.now a.out.now t (powers-fit c.before.before.before.before.before.before.before.before.before.before.before.before) c.before.before.before.before.before.before.before.before.add-spectrum.ensures) ∙ length-added _ _ _
+    let a = c.args in
+    let t = c.requires.0 in
+    ap length (sums-here a.state a.totals.now a.powers.now a.out.now t (powers-fit c.before.before.before.before.before.before.before.before.before.before.before) c.add_spectrum.ensures) ∙ length-added _ _ _
 
 returns : tie.Need-returns
 returns c =
-    let a = c.before.before.before.before.before.before.before.before.before.before.before.before.before.before.before.before.before.before.args in
-    let p = c.before.before.before.before.before.before.before.before.before.before.before.before.before.before.before.before.before.before.requires in
-    let known = c.before.before.before.before.before.before.before.before.before.before.before.before.before.before.before.before in
-    let sums = sums-here a.state a.totals.now a.powers.now a.out.now p.0 (powers-fit known) c.before.before.before.before.before.before.before.before.before.before.before.before.add-spectrum.ensures in
+    let a = c.args in
+    let p = c.requires in
+    let known = c.before.before.before.before.before.before.before.before.before.before.before.before.before.before.before in
+    let sums = sums-here a.state a.totals.now a.powers.now a.out.now p.0 (powers-fit known) c.add_spectrum.ensures in
     let written =
-    c.before.before.before.before.before.before.before.write-report.ensures
+    c.write_report-words.ensures
     ∙ ap (λ (t : List ℕ). report_written a.state.registers t a.out.now) sums
     ∙ written-plain a.state.registers (added a.state.registers a.totals.now a.powers.now) (means known) a.out.now (length-added _ _ _) p.0.room in
     let count = ap (λ (w : ReportLeft). w.words) written in
     simp (
-      c.reported-tick.ensures.0 ∙ ap report_reply count,
-      c.reported-tick.ensures.1 ∙ ap (λ (o : Outcome ℕ). report_state o a.state a.next) count,
+      c.reported_tick.ensures.0 ∙ ap report_reply count,
+      c.reported_tick.ensures.1 ∙ ap (λ (o : Outcome ℕ). report_state o a.state a.next) count,
       ap (λ (w : ReportLeft). w.out) written,
-      c.before.before.before.clear.ensures,
+      c.clear.ensures,
       p.1.1,
     )
 
-pub reporting-tick-spec : {M : Type 1} → statement M
-reporting-tick-spec =
+pub reporting_tick_spec : {M : Type 1} → statement M
+reporting_tick_spec =
     tie.close
     (tie.spec
     (λ c κs. search rules)

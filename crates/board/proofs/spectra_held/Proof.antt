@@ -4,16 +4,16 @@ use borrow.Author.Rules.{rules}
 use Rattle.board.proofs.spectra_held.Statement.{statement}
 use Rattle.board.proofs.spectra_held.Tie as tie
 
-returns : tie.Need-returns
-returns c = rw (← c.before.requires, not-true c.before.args.running c.if1.true)
+returns : tie.Need-returns-then-not-running
+returns c = rw (← c.requires, not-true c.args.running c.if-not-running.true-raw)
 
-returns-2 : tie.Need-returns-2
+returns-2 : tie.Need-returns-then-phase-averaged_spectra
 returns-2 c =
-    rw (← c.before.before.before.requires, not-false c.before.before.before.args.running c.before.before.if1.false, ← c.before.averaged-spectra.ensures, lt-ltb _ _ c.if2.true)
+    rw (← c.requires, not-false c.args.running c.if-not-running.false-raw, ← c.averaged_spectra.ensures, lt-ltb _ _ c.if-phase-averaged_spectra.true)
 
-returns-3 : tie.Need-returns-3
+returns-3 : tie.Need-returns-else-phase-averaged_spectra
 returns-3 c =
-    rw (← c.before.before.before.requires, not-false c.before.before.before.args.running c.before.before.if1.false, ← c.before.averaged-spectra.ensures, le-ltb _ _ c.if2.false)
+    rw (← c.requires, not-false c.args.running c.if-not-running.false-raw, ← c.averaged_spectra.ensures, le-ltb _ _ c.if-phase-averaged_spectra.false)
 
-pub spectra-held-spec : {M : Type 1} → statement M
-spectra-held-spec = tie.close (tie.spec returns (λ c κs. search rules) returns-2 returns-3)
+pub spectra_held_spec : {M : Type 1} → statement M
+spectra_held_spec = tie.close (tie.spec returns (λ c κs. search rules) returns-2 returns-3)

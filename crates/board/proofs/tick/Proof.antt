@@ -12,61 +12,61 @@ use Rattle.board.proofs.tick.Statement.{statement}
 use Rattle.board.proofs.tick.Tie as tie
 
 -- past the test of the lengths
-fit : (c : tie.Else1) → lengths_fit (length c.before.before.before.before.before.args.powers.now) (length c.before.before.before.before.before.args.totals.now) (length c.before.before.before.before.before.args.out.now) ≡ true
-fit c = sym c.before.are-lengths.ensures ∙ not-false _ c.if1.false
+fit : (c : tie.Else-not-are_lengths) → lengths_fit (length c.args.powers.now) (length c.args.totals.now) (length c.args.out.now) ≡ true
+fit c = sym c.are_lengths.ensures ∙ not-false _ c.if-not-are_lengths.false-raw
 
-powers-fit : (c : tie.Else1) → length c.before.before.before.before.before.args.powers.now ≡ 7168
+powers-fit : (c : tie.Else-not-are_lengths) → length c.args.powers.now ≡ 7168
 powers-fit c = eqb-true _ _ (both _ _ (both _ _ (fit c)).0).0
 
-totals-fit : (c : tie.Else1) → length c.before.before.before.before.before.args.totals.now ≡ 784
-totals-fit c = eqb-true _ _ (both (eqb (length c.before.before.before.before.before.args.powers.now) 7168) _ (both _ _ (fit c)).0).1
+totals-fit : (c : tie.Else-not-are_lengths) → length c.args.totals.now ≡ 784
+totals-fit c = eqb-true _ _ (both (eqb (length c.args.powers.now) 7168) _ (both _ _ (fit c)).0).1
 
-returns : tie.Need-returns
+returns : tie.Need-returns-then-not-are_lengths
 unfolding tick_outcome
 returns c =
-    let a = c.before.before.before.before.before.before.args in
-    let short : lengths_fit (length a.powers.now) (length a.totals.now) (length a.out.now) ≡ false = sym c.before.before.are-lengths.ensures ∙ not-true _ c.before.if1.true in
-    rw (short, c.refused-tick.ensures)
+    let a = c.args in
+    let short : lengths_fit (length a.powers.now) (length a.totals.now) (length a.out.now) ≡ false = sym c.are_lengths.ensures ∙ not-true _ c.if-not-are_lengths.true-raw in
+    rw (short, c.refused_tick.ensures)
 
-is-sound-requires : tie.Need-is-sound-requires
-is-sound-requires c κs = (c.before.running.ensures, totals-fit c.before.before.before)
+is-sound-requires : tie.Need-is_sound-requires
+is-sound-requires c κs = (c.running-is_running.ensures, totals-fit c.before.before)
 
-returns-2 : tie.Need-returns-2
+returns-2 : tie.Need-returns-then-not-is_sound
 unfolding tick_outcome
 returns-2 c =
-    let a = c.before.before.before.before.before.before.before.before.before.before.before.args in
-    let unsound : state_sound a.state a.totals.now ≡ false = sym c.before.before.is-sound.ensures ∙ not-true _ c.before.if2.true in
-    rw (fit c.before.before.before.before.before.before, unsound, c.refused-tick2.ensures)
+    let a = c.args in
+    let unsound : state_sound a.state a.totals.now ≡ false = sym c.is_sound.ensures ∙ not-true _ c.if-not-is_sound.true-raw in
+    rw (fit c.before.before.before.before.before, unsound, c.refused_tick-then-not-is_sound.ensures)
 
-returns-3 : tie.Need-returns-3
+returns-3 : tie.Need-returns-then-not-is_running
 unfolding tick_outcome
 returns-3 c =
-    let a = c.before.before.before.before.before.before.before.before.before.before.before.args in
-    let sound : state_sound a.state a.totals.now ≡ true = sym c.before.before.is-sound.ensures ∙ not-false _ c.before.if2.false in
-    let idle : running_of a.state.registers ≡ false = sym c.before.before.before.before.running.ensures ∙ not-true _ c.if3.true in
-    rw (fit c.before.before.before.before.before.before, sound, idle)
+    let a = c.args in
+    let sound : state_sound a.state a.totals.now ≡ true = sym c.is_sound.ensures ∙ not-false _ c.if-not-is_sound.false-raw in
+    let idle : running_of a.state.registers ≡ false = sym c.running-is_running.ensures ∙ not-true _ c.if-not-is_running.true-raw in
+    rw (fit c.before.before.before.before.before, sound, idle)
 
-running-tick-requires : tie.Need-running-tick-requires
+running-tick-requires : tie.Need-running_tick-requires
 running-tick-requires c κs =
-    let e = c.before.before.before.before.before.before.before.before in
+    let e = c.before.before.before.before.before.before.before in
     record {
       totals-length = totals-fit e;
       powers-length = powers-fit e;
-      room = leb-true _ _ (both (eqb (length e.before.before.before.before.before.args.powers.now) 7168 && eqb (length e.before.before.before.before.before.args.totals.now) 784) _ (fit e)).1;
-      sound-state = sym c.before.before.before.before.is-sound.ensures ∙ not-false _ c.before.before.before.if2.false;
-      is-running = sym c.before.before.before.before.before.before.running.ensures ∙ not-false _ c.before.before.if3.false;
+      room = leb-true _ _ (both (eqb (length e.args.powers.now) 7168 && eqb (length e.args.totals.now) 784) _ (fit e)).1;
+      sound-state = sym c.is_sound.ensures ∙ not-false _ c.if-not-is_sound.false-raw;
+      is-running = sym c.running-is_running.ensures ∙ not-false _ c.if-not-is_running.false-raw;
     }
 
-returns-4 : tie.Need-returns-4
+returns-4 : tie.Need-returns
 unfolding tick_outcome
 returns-4 c =
-    let a = c.before.before.before.before.before.before.before.before.before.before.before.before.before.before.before.before.before.before.args in
-    let sound : state_sound a.state a.totals.now ≡ true = sym c.before.before.before.before.before.before.before.before.before.is-sound.ensures ∙ not-false _ c.before.before.before.before.before.before.before.before.if2.false in
-    let run : running_of a.state.registers ≡ true = sym c.before.before.before.before.before.before.before.before.before.before.before.running.ensures ∙ not-false _ c.before.before.before.before.before.before.before.if3.false in
-    rw (fit c.before.before.before.before.before.before.before.before.before.before.before.before.before, sound, run) c.before.before.before.before.running-tick.ensures
+    let a = c.args in
+    let sound : state_sound a.state a.totals.now ≡ true = sym c.is_sound.ensures ∙ not-false _ c.if-not-is_sound.false-raw in
+    let run : running_of a.state.registers ≡ true = sym c.running-is_running.ensures ∙ not-false _ c.if-not-is_running.false-raw in
+    rw (fit c.before.before.before.before.before.before.before.before.before.before.before.before, sound, run) c.running_tick.ensures
 
-pub tick-spec : {M : Type 1} → statement M
-tick-spec =
+pub tick_spec : {M : Type 1} → statement M
+tick_spec =
     tie.close
     (tie.spec
     (λ c κs. search rules)

@@ -13,36 +13,36 @@ use Rattle.coarse.specs.Coarse.{fine_total, totals_taken}
 use Rattle.coarse.proofs.are_taken.Statement.{statement}
 use Rattle.coarse.proofs.are_taken.Tie as tie
 
-abbrev invariant-loop : tie.invariant-loop
+abbrev invariant-loop : tie.invariant-loop-i
 invariant-loop fine i₀ i-end i = (i ≤ length fine) × (i-end ≡ length fine) × (all_to i (λ k. leb (fine_total fine k) (2 ^ 49)) ≡ true)
 
-abbrev decreases-loop : tie.decreases-loop
+abbrev decreases-loop : tie.decreases-loop-i
 decreases-loop fine i₀ i-end i = i-end - i
 
-loop-holds : tie.Need-loop-init invariant-loop decreases-loop
+loop-holds : tie.Need-loop-i-init invariant-loop decreases-loop
 loop-holds c = (search rules, refl, all_to-none _)
 
-returns : tie.Need-returns invariant-loop decreases-loop
+returns : tie.Need-returns-then-fine-i-gt-MOST_TOTAL invariant-loop decreases-loop
 unfolding totals_taken
 returns c =
-    let l = c.before.before.before.loop in
-    let fine = c.before.before.before.before.args.fine.now in
+    let l = c.loop-i in
+    let fine = c.args.fine.now in
     sym (all_to-false _ (length fine) l.i (omega arith) (lt-leb (fine_total fine l.i) (2 ^ 49) (omega arith)))
 
-loop-again : tie.Need-loop-preserved invariant-loop decreases-loop
+loop-again : tie.Need-loop-i-preserved invariant-loop decreases-loop
 loop-again c =
-    let l = c.before.before.before.loop in
-    let fine = c.before.before.before.before.args.fine.now in
+    let l = c.loop-i in
+    let fine = c.args.fine.now in
     (search rules, search rules, all_to-more _ l.i l.invariant.2 (le-leb (fine_total fine l.i) (2 ^ 49) (omega arith)))
 
-returns-2 : tie.Need-returns-2 invariant-loop decreases-loop
+returns-2 : tie.Need-returns invariant-loop decreases-loop
 unfolding totals_taken
 returns-2 c =
-    let e : c.before.loop.i ≡ length c.before.before.args.fine.now = omega arith in
-    rw (← e) (sym c.before.loop.invariant.2)
+    let e : c.loop-i.i ≡ length c.args.fine.now = omega arith in
+    rw (← e) (sym c.loop-i.invariant.2)
 
-pub are-taken-spec : {M : Type 1} → statement M
-are-taken-spec =
+pub are_taken_spec : {M : Type 1} → statement M
+are_taken_spec =
     tie.close
     (tie.spec
     invariant-loop

@@ -15,63 +15,63 @@ use Rattle.coarse.proofs.coarse_totals.Statement.{statement}
 use Rattle.coarse.proofs.coarse_totals.Tie as tie
 
 -- the constant has the count of the target
-counted : (c : tie.Else1) → get_or (36 ∷ 64 ∷ 112 ∷ []) c.before.before.before.args.setting 0 ≡ band_count c.before.before.before.args.setting
-counted c = count_at c.before.before.before.args.setting (omega arith)
+counted : (c : tie.Else-setting-gt-LAST_TARGET) → get_or (36 ∷ 64 ∷ 112 ∷ []) c.args.setting 0 ≡ band_count c.args.setting
+counted c = count_at c.args.setting (omega arith)
 
-returns : tie.Need-returns
+returns : tie.Need-returns-then-setting-gt-LAST_TARGET
 unfolding coarse_outcome
-returns c = simp (lt-leb c.before.before.before.args.setting 1 (omega arith))
+returns c = simp (lt-leb c.args.setting 1 (omega arith))
 
-cast-bands : tie.Need-overflow-cast-bands
-cast-bands c = omega (arith, counted c, (bands-count c.before.before.before.args.setting).at_most)
+cast-bands : tie.Need-overflow_cast-bands
+cast-bands c = omega (arith, counted c.before.before, (bands-count c.args.setting).at_most)
 
-returns-2 : tie.Need-returns-2
+returns-2 : tie.Need-returns-then-fine-ne-FINE_TOTALS
 unfolding coarse_outcome
 returns-2 c =
-    let a = c.before.before.before.before.args in
-    simp (le-leb a.setting 1 (omega arith), ne_eqb (length a.fine.now) 112 c.if2.true)
+    let a = c.args in
+    simp (le-leb a.setting 1 (omega arith), ne_eqb (length a.fine.now) 112 c.if-fine-ne-FINE_TOTALS.true)
 
-returns-3 : tie.Need-returns-3
+returns-3 : tie.Need-returns-then-out-bands
 unfolding coarse_outcome
 returns-3 c =
-    let a = c.before.before.before.before.before.args in
+    let a = c.args in
     let target = le-leb a.setting 1 (omega arith) in
     let long = eq-eqb (length a.fine.now) 112 (omega arith) in
-    let short = lt-leb (band_count a.setting) (length a.out.now) (omega (arith, counted c.before.before)) in
+    let short = lt-leb (band_count a.setting) (length a.out.now) (omega (arith, counted c.before.before.before.before)) in
     simp (target, long, short)
 
-returns-4 : tie.Need-returns-4
+returns-4 : tie.Need-returns-then-not-are_taken
 unfolding coarse_outcome
 returns-4 c =
-    let a = c.before.before.before.before.before.before.before.args in
+    let a = c.args in
     let target = le-leb a.setting 1 (omega arith) in
     let long = eq-eqb (length a.fine.now) 112 (omega arith) in
-    let room = le-leb (band_count a.setting) (length a.out.now) (omega (arith, counted c.before.before.before.before)) in
-    let over : totals_taken a.fine.now ≡ false = sym c.before.are-taken.ensures ∙ not-true _ c.if4.true in
+    let room = le-leb (band_count a.setting) (length a.out.now) (omega (arith, counted c.before.before.before.before.before.before)) in
+    let over : totals_taken a.fine.now ≡ false = sym c.are_taken.ensures ∙ not-true _ c.if-not-are_taken.true-raw in
     simp (target, long, room, over)
 
-put-totals-requires : tie.Need-put-totals-requires
+put-totals-requires : tie.Need-put_totals-requires
 put-totals-requires c κs =
-    let first = c.before.before.before.before.before in
-    let taken = sym c.before.before.are-taken.ensures ∙ not-false _ c.before.if4.false in
+    let first = c.before.before.before.before.before.before.before in
+    let taken = sym c.are_taken.ensures ∙ not-false _ c.if-not-are_taken.false-raw in
     (omega arith, ((omega arith, taken), omega (arith, counted first)))
 
-returns-5 : tie.Need-returns-5
+returns-5 : tie.Need-returns
 unfolding coarse_outcome
 returns-5 c =
-    let first = c.before.before.before.before.before.before.before.before in
-    let a = first.before.before.before.args in
+    let first = c.before.before.before.before.before.before.before.before.before.before in
+    let a = first.args in
     let target = le-leb a.setting 1 (omega arith) in
     let long = eq-eqb (length a.fine.now) 112 (omega arith) in
     let room = le-leb (band_count a.setting) (length a.out.now) (omega (arith, counted first)) in
     let taken : totals_taken a.fine.now ≡ true =
-    sym c.before.before.before.before.before.are-taken.ensures ∙ not-false _ c.before.before.before.before.if4.false
+    sym c.are_taken.ensures ∙ not-false _ c.if-not-are_taken.false-raw
     in
     simp (target, long, room, taken)
-    (ap₂ (λ (n : ℕ) (l : List ℕ). record { answer = given n; buffer = l }) (counted first) c.before.before.put-totals.ensures)
+    (ap₂ (λ (n : ℕ) (l : List ℕ). record { answer = given n; buffer = l }) (counted first) c.put_totals.ensures)
 
-pub coarse-totals-spec : {M : Type 1} → statement M
-coarse-totals-spec =
+pub coarse_totals_spec : {M : Type 1} → statement M
+coarse_totals_spec =
     tie.close
     (tie.spec
     returns

@@ -19,41 +19,41 @@ written n start = overwrite (tabulate n (λ b. run_sum 0 b (fine_total start.arg
 
 -- ---- bands 0 to 7
 
-put-runs-requires : tie.Need-put-runs-requires
+put-runs-requires : tie.Need-put_runs-requires
 put-runs-requires c κs =
-    let start = c.before.before.before.before in
+    let start = c in
     let out = start.args.out.now in
     segment-runs 0 0 1 8 0 ones-36 start.args.fine.now start.requires.0.0 out out (table_none _ out) (omega (arith, start.requires.1)) start.requires.0.1
 
-abbrev left : tie.After-put-runs → List ℕ
-left c = c.put-runs.new.1.0 ++ drop 8 c.before.before.before.before.before.args.out.now
+abbrev left : tie.After-put_runs → List ℕ
+left c = c.put_runs.new.out ++ drop 8 c.args.out.now
 
-ones : (c : tie.After-put-runs) → left c ≡ written 8 c.before.before.before.before.before
+ones : (c : tie.After-put_runs) → left c ≡ written 8 c.before.before.before.before.before
 ones c =
-    let start = c.before.before.before.before.before in
+    let start = c in
     let out = start.args.out.now in
-    segment-written 0 0 1 8 0 ones-36 start.args.fine.now start.requires.0.0 out out (table_none _ out) (omega (arith, start.requires.1)) _ c.put-runs.ensures
+    segment-written 0 0 1 8 0 ones-36 start.args.fine.now start.requires.0.0 out out (table_none _ out) (omega (arith, start.requires.1)) _ c.put_runs.ensures
 
 -- ---- bands 8 to 11
 
-put-runs-requires-2 : tie.Need-put-runs-requires-2
+put-runs-requires-2 : tie.Need-put_runs-requires-2
 put-runs-requires-2 c κs =
     let first = c.before.before.before.before in
     let start = first.before.before.before.before.before in
     segment-runs 0 8 2 4 8 twos-36 start.args.fine.now start.requires.0.0 start.args.out.now (left first) (ones first) (omega (arith, start.requires.1)) start.requires.0.1
 
-abbrev left-2 : tie.After-put-runs2 → List ℕ
-left-2 c = let l = left c.before.before.before.before.before in take 8 l ++ (c.put-runs2.new.1.0 ++ drop 4 (drop 8 l))
+abbrev left-2 : tie.After-put_runs-2 → List ℕ
+left-2 c = let l = left c.before.before.before.before.before in take 8 l ++ (c.put_runs-2.new.out ++ drop 4 (drop 8 l))
 
-twos : (c : tie.After-put-runs2) → left-2 c ≡ written 12 c.before.before.before.before.before.before.before.before.before.before
+twos : (c : tie.After-put_runs-2) → left-2 c ≡ written 12 c.before.before.before.before.before.before.before.before.before.before
 twos c =
     let first = c.before.before.before.before.before in
     let start = first.before.before.before.before.before in
-    segment-written 0 8 2 4 8 twos-36 start.args.fine.now start.requires.0.0 start.args.out.now (left first) (ones first) (omega (arith, start.requires.1)) _ c.put-runs2.ensures
+    segment-written 0 8 2 4 8 twos-36 start.args.fine.now start.requires.0.0 start.args.out.now (left first) (ones first) (omega (arith, start.requires.1)) _ c.put_runs-2.ensures
 
 -- ---- bands 12 to 35
 
-put-runs-requires-3 : tie.Need-put-runs-requires-3
+put-runs-requires-3 : tie.Need-put_runs-requires-3
 put-runs-requires-3 c κs =
     let second = c.before.before.before.before in
     let start = second.before.before.before.before.before.before.before.before.before.before in
@@ -64,10 +64,10 @@ unfolding coarse_totals band_count
 returns c =
     let second = c.before.before.before.before.before.before.before in
     let start = second.before.before.before.before.before.before.before.before.before.before in
-    segment-written 0 12 4 24 16 fours-36 start.args.fine.now start.requires.0.0 start.args.out.now (left-2 second) (twos second) (omega (arith, start.requires.1)) _ c.before.before.put-runs3.ensures
+    segment-written 0 12 4 24 16 fours-36 start.args.fine.now start.requires.0.0 start.args.out.now (left-2 second) (twos second) (omega (arith, start.requires.1)) _ c.put_runs-3.ensures
 
-pub put-36-spec : {M : Type 1} → statement M
-put-36-spec =
+pub put_36_spec : {M : Type 1} → statement M
+put_36_spec =
     tie.close
     (tie.spec
     (λ c. search rules)

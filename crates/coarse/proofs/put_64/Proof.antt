@@ -15,25 +15,25 @@ use Rattle.coarse.proofs.put_64.Tie as tie
 
 -- ---- bands 0 to 15
 
-put-runs-requires : tie.Need-put-runs-requires
+put-runs-requires : tie.Need-put_runs-requires
 put-runs-requires c κs =
-    let start = c.before.before.before.before in
+    let start = c in
     let out = start.args.out.now in
     segment-runs 1 0 1 16 0 ones-64 start.args.fine.now start.requires.0.0 out out (table_none _ out) (omega (arith, start.requires.1)) start.requires.0.1
 
-abbrev left : tie.After-put-runs → List ℕ
-left c = c.put-runs.new.1.0 ++ drop 16 c.before.before.before.before.before.args.out.now
+abbrev left : tie.After-put_runs → List ℕ
+left c = c.put_runs.new.out ++ drop 16 c.args.out.now
 
-ones : (c : tie.After-put-runs) → let a = c.before.before.before.before.before.args in
+ones : (c : tie.After-put_runs) → let a = c.args in
     left c ≡ overwrite (tabulate 16 (λ b. run_sum 1 b (fine_total a.fine.now))) a.out.now
 ones c =
-    let start = c.before.before.before.before.before in
+    let start = c in
     let out = start.args.out.now in
-    segment-written 1 0 1 16 0 ones-64 start.args.fine.now start.requires.0.0 out out (table_none _ out) (omega (arith, start.requires.1)) _ c.put-runs.ensures
+    segment-written 1 0 1 16 0 ones-64 start.args.fine.now start.requires.0.0 out out (table_none _ out) (omega (arith, start.requires.1)) _ c.put_runs.ensures
 
 -- ---- bands 16 to 63
 
-put-runs-requires-2 : tie.Need-put-runs-requires-2
+put-runs-requires-2 : tie.Need-put_runs-requires-2
 put-runs-requires-2 c κs =
     let first = c.before.before.before.before in
     let start = first.before.before.before.before.before in
@@ -44,10 +44,10 @@ unfolding coarse_totals band_count
 returns c =
     let first = c.before.before.before.before.before.before.before in
     let start = first.before.before.before.before.before in
-    segment-written 1 16 2 48 16 twos-64 start.args.fine.now start.requires.0.0 start.args.out.now (left first) (ones first) (omega (arith, start.requires.1)) _ c.before.before.put-runs2.ensures
+    segment-written 1 16 2 48 16 twos-64 start.args.fine.now start.requires.0.0 start.args.out.now (left first) (ones first) (omega (arith, start.requires.1)) _ c.put_runs-2.ensures
 
-pub put-64-spec : {M : Type 1} → statement M
-put-64-spec =
+pub put_64_spec : {M : Type 1} → statement M
+put_64_spec =
     tie.close
     (tie.spec
     (λ c. search rules)

@@ -21,69 +21,69 @@ use Rattle.coarse.proofs.put_runs.Tie as tie
 abbrev sum_of : ℕ → List ℕ → ℕ → ℕ
 sum_of len fine i = sum_to len (λ j. fine_total fine (i * len + j))
 
-abbrev invariant-loop : tie.invariant-loop
+abbrev invariant-loop : tie.invariant-loop-i
 invariant-loop fine out₀ len i₀ i-end out i =
     (i ≤ length out₀) × (i-end ≡ length out₀) × (length out ≡ length out₀) × (out ≡ overwrite (tabulate i (sum_of len fine)) out₀)
 
-abbrev decreases-loop : tie.decreases-loop
+abbrev decreases-loop : tie.decreases-loop-i
 decreases-loop fine out₀ len i₀ i-end out i = i-end - i
 
-loop-holds : tie.Need-loop-init invariant-loop decreases-loop
+loop-holds : tie.Need-loop-i-init invariant-loop decreases-loop
 loop-holds c = (search rules, refl, refl, table_none _ _)
 
 -- run i ends within the totals
-within : (c : tie.In-loop invariant-loop decreases-loop) →
-    c.before.loop.i * c.before.before.before.before.args.len + c.before.before.before.before.args.len ≤ length c.before.before.before.before.args.fine.now
+within : (c : tie.In-loop-i invariant-loop decreases-loop) →
+    c.loop-i.i * c.args.len + c.args.len ≤ length c.args.fine.now
 within c =
-    let start = c.before.before.before.before in
-    omega (arith, run_end start.args.len (length start.args.out.now) c.before.loop.i (omega arith), start.requires.whole)
+    let start = c in
+    omega (arith, run_end start.args.len (length start.args.out.now) c.loop-i.i (omega arith), start.requires.whole)
 
-small : tie.Need-overflow-mul-k invariant-loop decreases-loop
-small c = omega (arith, within c, c.before.before.before.before.requires.few)
+small : tie.Need-overflow_mul-k invariant-loop decreases-loop
+small c = omega (arith, within c, c.requires.few)
 
-run-sum-requires : tie.Need-run-sum-requires invariant-loop decreases-loop
+run-sum-requires : tie.Need-run_sum-requires invariant-loop decreases-loop
 run-sum-requires c κs =
-    let start = c.before.before.before.before.before in
+    let start = c in
     let fine = start.args.fine.now in
-    let k = c.before.before.loop.i * start.args.len in
+    let k = c.loop-i.i * start.args.len in
     let room : k + start.args.len ≤ length fine = within c.before in
     (omega (arith, length_part fine k start.args.len room, start.requires.short), taken-part fine k start.args.len room start.requires.taken)
 
-loop-again : tie.Need-loop-preserved invariant-loop decreases-loop
+loop-again : tie.Need-loop-i-preserved invariant-loop decreases-loop
 loop-again c =
-    let start = c.before.before.before.before.before.before in
+    let start = c in
     let a = start.args in
     let fine = a.fine.now in
-    let l = c.before.before.before.loop in
+    let l = c.loop-i in
     let k = l.i * a.len in
     let room : k + a.len ≤ length fine = within c.before.before in
-    let sum : c.run-sum.result ≡ sum_of a.len fine l.i =
-    c.run-sum.ensures
+    let sum : c.run_sum.result ≡ sum_of a.len fine l.i =
+    c.run_sum.ensures
     ∙ ap (λ (n : ℕ). sum_to n (λ j. get_or (part fine k a.len) j 0)) (length_part fine k a.len room)
     ∙ sum_to-ext a.len _ _ (λ j h. get_d_part fine k a.len j 0 h)
     in
-    (search rules, search rules, simp length-set l.invariant.2, table_more _ a.out.now l.i c.run-sum.result 0 l.out l.invariant.3 (omega arith) sum)
+    (search rules, search rules, simp length-set l.invariant.2, table_more _ a.out.now l.i c.run_sum.result 0 l.out l.invariant.3 (omega arith) sum)
 
 returns : tie.Need-returns invariant-loop decreases-loop
 unfolding run_sums
 returns c =
-    let a = c.before.before.before.before.args in
-    let l = c.before.loop in
+    let a = c.args in
+    let l = c.loop-i in
     let e : l.i ≡ length a.out.now = omega arith in
     let sums = tabulate (length a.out.now) (sum_of a.len a.fine.now) in
     l.invariant.3 ∙ ap (λ (n : ℕ). overwrite (tabulate n (sum_of a.len a.fine.now)) a.out.now) e
     ∙ overwrite-all sums a.out.now (length-tabulate (length a.out.now) (sum_of a.len a.fine.now))
 
-pub put-runs-spec : {M : Type 1} → statement M
-put-runs-spec =
+pub put_runs_spec : {M : Type 1} → statement M
+put_runs_spec =
     tie.close
     (tie.spec
     invariant-loop
     decreases-loop
     loop-holds
     small
-    (λ c. omega (arith, within c, c.before.before.before.before.requires.few))
-    (λ c. omega (arith, within c, c.before.before.before.before.requires.few))
+    (λ c. omega (arith, within c, c.requires.few))
+    (λ c. omega (arith, within c, c.requires.few))
     (λ c. search rules)
     (λ c. search rules)
     (λ c. omega (arith, within c))
@@ -93,5 +93,5 @@ put-runs-spec =
     (λ c. search rules)
     (λ c. search rules)
     loop-again
-    (λ c. c.before.loop.invariant.2)
+    (λ c. c.loop-i.invariant.2)
     returns)

@@ -17,31 +17,31 @@ count-64 : (setting : ℕ) → setting ≡ 1 → band_count setting ≡ 64
 unfolding band_count
 count-64 setting e = ap band_count e
 
-put-36-requires : tie.Need-put-36-requires
+put-36-requires : tie.Need-put_36-requires
 put-36-requires c κs =
-    let start = c.before.before.before.before in
-    (start.requires.1.0, omega (arith, start.requires.1.1, count-36 start.args.setting c.before.if1.true))
+    let start = c in
+    (start.requires.1.0, omega (arith, start.requires.1.1, count-36 start.args.setting c.if-setting-eq0.true))
 
-put-64-requires : tie.Need-put-64-requires
+put-64-requires : tie.Need-put_64-requires
 put-64-requires c κs =
-    let start = c.before.before.before.before in
-    let one : start.args.setting ≡ 1 = omega (arith, start.requires.0, c.before.if1.false) in
+    let start = c in
+    let one : start.args.setting ≡ 1 = omega (arith, start.requires.0, c.if-setting-eq0.false) in
     (start.requires.1.0, omega (arith, start.requires.1.1, count-64 start.args.setting one))
 
-returns : tie.Need-returns
+returns : tie.Need-returns-then-setting-eq0
 returns c =
-    let start = c.before.before.before.before.before.before.before in
-    let zero = c.before.before.before.before.if1.true in
-    c.before.before.put-36.ensures ∙ ap (λ (s : ℕ). overwrite (coarse_totals s start.args.fine.now) start.args.out.now) (sym zero)
+    let start = c in
+    let zero = c.if-setting-eq0.true in
+    c.put_36.ensures ∙ ap (λ (s : ℕ). overwrite (coarse_totals s start.args.fine.now) start.args.out.now) (sym zero)
 
-returns-2 : tie.Need-returns-2
+returns-2 : tie.Need-returns-else-setting-eq0
 returns-2 c =
-    let start = c.before.before.before.before.before.before.before in
-    let one : start.args.setting ≡ 1 = omega (arith, start.requires.0, c.before.before.before.before.if1.false) in
-    c.before.before.put-64.ensures ∙ ap (λ (s : ℕ). overwrite (coarse_totals s start.args.fine.now) start.args.out.now) (sym one)
+    let start = c in
+    let one : start.args.setting ≡ 1 = omega (arith, start.requires.0, c.if-setting-eq0.false) in
+    c.put_64.ensures ∙ ap (λ (s : ℕ). overwrite (coarse_totals s start.args.fine.now) start.args.out.now) (sym one)
 
-pub put-totals-spec : {M : Type 1} → statement M
-put-totals-spec =
+pub put_totals_spec : {M : Type 1} → statement M
+put_totals_spec =
     tie.close
     (tie.spec
     put-36-requires

@@ -7,16 +7,16 @@ use Rattle.dfb_refusals.specs.Numbers.{above8, outcome_number}
 use Rattle.dfb_bands.proofs.dfb_band_of.Statement.{statement}
 use Rattle.dfb_bands.proofs.dfb_band_of.Tie as tie
 
-returns : tie.Need-returns
-returns c = ap (outcome_number above8) (sym (ap band_index_outcome c.before.band.given.1) ∙ c.before.before.before.band-of.ensures)
+returns : tie.Need-returns-in-Band
+returns c = ap (outcome_number above8) (sym (ap band_index_outcome c.in-Band.is) ∙ c.band_of.ensures)
 
-returns-2 : tie.Need-returns-2
+returns-2 : tie.Need-returns-in-Refused
 returns-2 c =
     ap (λ (n : ℕ). 0x100 + n) c.number.ensures
-    ∙ ap (outcome_number above8) (sym (ap band_index_outcome c.before.before.refusal.given.1) ∙ c.before.before.before.before.band-of.ensures)
+    ∙ ap (outcome_number above8) (sym (ap band_index_outcome c.in-Refused.is) ∙ c.band_of.ensures)
 
-pub dfb-band-of-spec : {M : Type 1} → statement M
-dfb-band-of-spec =
+pub dfb_band_of_spec : {M : Type 1} → statement M
+dfb_band_of_spec =
     tie.close
     (tie.spec
     (λ c κs. search rules)

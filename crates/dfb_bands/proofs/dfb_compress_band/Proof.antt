@@ -4,10 +4,10 @@ use Rattle.dfb_bands.proofs.dfb_compress_band.Statement.{statement}
 use Rattle.dfb_bands.proofs.dfb_compress_band.Tie as tie
 
 returns : tie.Need-returns
-returns c = c.compress-band.ensures
+returns c = c.compress_band.ensures
 
-pub dfb-compress-band-spec : {M : Type 1} → statement M
-dfb-compress-band-spec =
+pub dfb_compress_band_spec : {M : Type 1} → statement M
+dfb_compress_band_spec =
     tie.close
     (tie.spec
     (λ c κs. search rules)

@@ -4,10 +4,10 @@ use Rattle.dfb_bands.proofs.dfb_compress_sum.Statement.{statement}
 use Rattle.dfb_bands.proofs.dfb_compress_sum.Tie as tie
 
 returns : tie.Need-returns
-returns c = c.compress-sum.ensures
+returns c = c.compress_sum.ensures
 
-pub dfb-compress-sum-spec : {M : Type 1} → statement M
-dfb-compress-sum-spec =
+pub dfb_compress_sum_spec : {M : Type 1} → statement M
+dfb_compress_sum_spec =
     tie.close
     (tie.spec
     (λ c κs. search rules)

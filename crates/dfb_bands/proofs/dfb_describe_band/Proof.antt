@@ -12,31 +12,31 @@ use Rattle.dfb_refusals.proofs.Values.{values-short, values-stored, values-of}
 use Rattle.dfb_bands.proofs.dfb_describe_band.Statement.{statement}
 use Rattle.dfb_bands.proofs.dfb_describe_band.Tie as tie
 
-returns : tie.Need-returns
+returns : tie.Need-returns-then-three-lt3
 unfolding band_written
 returns c =
-    let list = c.before.before.before.before.before.before.before.args.three.now in
-    let v = c.before.before.before.description.given.0.0 in
-    let values = sym (ap band_description_outcome c.before.before.before.description.given.1) ∙ c.before.before.before.before.before.describe-band.ensures.0 in
-    values-of above16 three_values list values (numbered above16 _ c.above-16.ensures (values-short (three_values v) list (omega arith)))
+    let list = c.args.three.now in
+    let v = c.in-Described.description in
+    let values = sym (ap band_description_outcome c.in-Described.is) ∙ c.describe_band.ensures.0 in
+    values-of above16 three_values list values (numbered above16 _ c.above_16.ensures (values-short (three_values v) list (omega arith)))
 
-returns-2 : tie.Need-returns-2
+returns-2 : tie.Need-returns-else-three-lt3
 unfolding band_written
 returns-2 c =
-    let list = c.before.before.before.before.before.before.args.three.now in
-    let v = c.before.before.description.given.0.0 in
-    let values = sym (ap band_description_outcome c.before.before.description.given.1) ∙ c.before.before.before.before.describe-band.ensures.0 in
+    let list = c.args.three.now in
+    let v = c.in-Described.description in
+    let values = sym (ap band_description_outcome c.in-Described.is) ∙ c.describe_band.ensures.0 in
     values-of above16 three_values list values (values-stored (three_values v) list above16 (omega arith))
 
-returns-3 : tie.Need-returns-3
+returns-3 : tie.Need-returns-in-Refused
 unfolding band_written
 returns-3 c =
-    let list = c.before.before.before.before.before.before.args.three.now in
-    let values = sym (ap band_description_outcome c.before.before.refusal.given.1) ∙ c.before.before.before.before.describe-band.ensures.0 in
-    values-of above16 three_values list values (ap (λ (n : ℕ). record { answer = n; buffer = list }) c.above-162.ensures)
+    let list = c.args.three.now in
+    let values = sym (ap band_description_outcome c.in-Refused.is) ∙ c.describe_band.ensures.0 in
+    values-of above16 three_values list values (ap (λ (n : ℕ). record { answer = n; buffer = list }) c.above_16-in-Refused.ensures)
 
-pub dfb-describe-band-spec : {M : Type 1} → statement M
-dfb-describe-band-spec =
+pub dfb_describe_band_spec : {M : Type 1} → statement M
+dfb_describe_band_spec =
     tie.close
     (tie.spec
     (λ c κs. search rules)

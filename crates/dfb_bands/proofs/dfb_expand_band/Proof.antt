@@ -7,16 +7,16 @@ use Rattle.dfb_refusals.proofs.Numbers.{refused-number}
 use Rattle.dfb_bands.proofs.dfb_expand_band.Statement.{statement}
 use Rattle.dfb_bands.proofs.dfb_expand_band.Tie as tie
 
-returns : tie.Need-returns
-returns c = ap (outcome_number above63) (sym (ap band_value_outcome c.before.value.given.1) ∙ c.before.before.before.expand-band.ensures)
+returns : tie.Need-returns-in-Value
+returns c = ap (outcome_number above63) (sym (ap band_value_outcome c.in-Value.is) ∙ c.expand_band.ensures)
 
-returns-2 : tie.Need-returns-2
+returns-2 : tie.Need-returns-in-Refused
 returns-2 c =
-    refused-number above63 c.before.before.refusal.given.0.0 c.above-63.ensures
-    (sym (ap band_value_outcome c.before.before.refusal.given.1) ∙ c.before.before.before.before.expand-band.ensures)
+    refused-number above63 c.in-Refused.refusal c.above_63.ensures
+    (sym (ap band_value_outcome c.in-Refused.is) ∙ c.expand_band.ensures)
 
-pub dfb-expand-band-spec : {M : Type 1} → statement M
-dfb-expand-band-spec =
+pub dfb_expand_band_spec : {M : Type 1} → statement M
+dfb_expand_band_spec =
     tie.close
     (tie.spec
     (λ c κs. search rules)

@@ -11,31 +11,31 @@ use Rattle.dfb_refusals.proofs.Values.{values-short, values-stored, values-of}
 use Rattle.dfb_bands.proofs.dfb_expand_sum.Statement.{statement}
 use Rattle.dfb_bands.proofs.dfb_expand_sum.Tie as tie
 
-returns : tie.Need-returns
+returns : tie.Need-returns-then-value-lt1
 unfolding sum_written
 returns c =
-    let list = c.before.before.before.before.before.before.before.args.value.now in
-    let v = c.before.before.before.v.given.0.0 in
-    let values = sym (ap sum_value_outcome c.before.before.before.v.given.1) ∙ c.before.before.before.before.before.expand-sum.ensures in
-    values-of above16 one_value list values (numbered above16 _ c.above-16.ensures (values-short (one_value v) list (omega arith)))
+    let list = c.args.value.now in
+    let v = c.in-Value.v in
+    let values = sym (ap sum_value_outcome c.in-Value.is) ∙ c.expand_sum.ensures in
+    values-of above16 one_value list values (numbered above16 _ c.above_16.ensures (values-short (one_value v) list (omega arith)))
 
-returns-2 : tie.Need-returns-2
+returns-2 : tie.Need-returns-else-value-lt1
 unfolding sum_written
 returns-2 c =
-    let list = c.before.before.before.before.before.before.args.value.now in
-    let v = c.before.before.v.given.0.0 in
-    let values = sym (ap sum_value_outcome c.before.before.v.given.1) ∙ c.before.before.before.before.expand-sum.ensures in
+    let list = c.args.value.now in
+    let v = c.in-Value.v in
+    let values = sym (ap sum_value_outcome c.in-Value.is) ∙ c.expand_sum.ensures in
     values-of above16 one_value list values (values-stored (one_value v) list above16 (omega arith))
 
-returns-3 : tie.Need-returns-3
+returns-3 : tie.Need-returns-in-Refused
 unfolding sum_written
 returns-3 c =
-    let list = c.before.before.before.before.before.before.args.value.now in
-    let values = sym (ap sum_value_outcome c.before.before.refusal.given.1) ∙ c.before.before.before.before.expand-sum.ensures in
-    values-of above16 one_value list values (ap (λ (n : ℕ). record { answer = n; buffer = list }) c.above-162.ensures)
+    let list = c.args.value.now in
+    let values = sym (ap sum_value_outcome c.in-Refused.is) ∙ c.expand_sum.ensures in
+    values-of above16 one_value list values (ap (λ (n : ℕ). record { answer = n; buffer = list }) c.above_16-in-Refused.ensures)
 
-pub dfb-expand-sum-spec : {M : Type 1} → statement M
-dfb-expand-sum-spec =
+pub dfb_expand_sum_spec : {M : Type 1} → statement M
+dfb_expand_sum_spec =
     tie.close
     (tie.spec
     (λ c κs. search rules)

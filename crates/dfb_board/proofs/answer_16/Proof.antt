@@ -7,11 +7,11 @@ use Rattle.dfb_refusals.proofs.Numbers.{refused-number}
 use Rattle.dfb_board.proofs.answer_16.Statement.{statement}
 use Rattle.dfb_board.proofs.answer_16.Tie as tie
 
-returns-2 : tie.Need-returns-2
-returns-2 c = refused-number above16 c.before.before.answer2.given.0.0 c.above-16.ensures (ap answer_outcome (sym c.before.before.answer2.given.1))
+returns-2 : tie.Need-returns-in-Refused
+returns-2 c = refused-number above16 c.in-Refused.refusal c.above_16.ensures (ap answer_outcome (sym c.in-Refused.is))
 
-pub answer-16-spec : {M : Type 1} → statement M
-answer-16-spec =
+pub answer_16_spec : {M : Type 1} → statement M
+answer_16_spec =
     tie.close
     (tie.spec
     (λ c. search rules)

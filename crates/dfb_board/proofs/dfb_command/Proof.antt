@@ -9,23 +9,23 @@ use Rattle.dfb_board.proofs.Calls.{command-number, command-done, command-other, 
 use Rattle.dfb_board.proofs.dfb_command.Statement.{statement}
 use Rattle.dfb_board.proofs.dfb_command.Tie as tie
 
-returns : tie.Need-returns
+returns : tie.Need-returns-then-state-ne-STATE
 returns c =
-    let a = c.before.before.before.before.args in
-    ap (λ (n : ℕ). record { answer = n; state = a.state.now; totals = a.totals.now }) c.above-16.ensures
-    ∙ command-other a.state.now (λ e. c.before.if1.true (omega (arith, e))) a.totals.now a.id a.information
+    let a = c.args in
+    ap (λ (n : ℕ). record { answer = n; state = a.state.now; totals = a.totals.now }) c.above_16.ensures
+    ∙ command-other a.state.now (λ e. c.if-state-ne-STATE.true (omega (arith, e))) a.totals.now a.id a.information
 
-returns-2 : tie.Need-returns-2
+returns-2 : tie.Need-returns
 returns-2 c =
-    let at_load = c.before.before.before.before.before.before.before.before.before.before in
-    let a = at_load.before.before.before.before.before.args in
-    let done : ◌≡◌ {A = CommandOutcome} _ (command_outcome at_load.load.result a.totals.now a.id a.information) = c.before.before.before.before.before.before.before.before.command.ensures in
-    command-done _ _ (c.answer-16.ensures ∙ command-number c.before.before.before.before.before.before.before.before.command.result.answer _) c.before.before.before.store.ensures
+    let at_load = c in
+    let a = at_load.args in
+    let done : ◌≡◌ {A = CommandOutcome} _ (command_outcome at_load.load.result a.totals.now a.id a.information) = c.command-done.ensures in
+    command-done _ _ (c.answer_16.ensures ∙ command-number c.command-done.result.answer _) c.store.ensures
     (done ∙ ap (λ (s : State). command_outcome s a.totals.now a.id a.information) at_load.load.ensures)
     ∙ command-state a.state.now (omega arith) a.totals.now a.id a.information
 
-pub dfb-command-spec : {M : Type 1} → statement M
-dfb-command-spec =
+pub dfb_command_spec : {M : Type 1} → statement M
+dfb_command_spec =
     tie.close
     (tie.spec
     (λ c κs. search rules)

@@ -9,21 +9,21 @@ use Rattle.dfb_board.proofs.Calls.{read-other, read-state}
 use Rattle.dfb_board.proofs.dfb_read.Statement.{statement}
 use Rattle.dfb_board.proofs.dfb_read.Tie as tie
 
-returns : tie.Need-returns
+returns : tie.Need-returns-then-state-ne-STATE
 returns c =
-    let a = c.before.before.before.args in
-    c.above-16.ensures ∙ read-other a.state.now (λ e. c.before.if1.true (omega (arith, e))) a.id
+    let a = c.args in
+    c.above_16.ensures ∙ read-other a.state.now (λ e. c.if-state-ne-STATE.true (omega (arith, e))) a.id
 
-returns-2 : tie.Need-returns-2
+returns-2 : tie.Need-returns
 returns-2 c =
-    let a = c.before.before.before.before.before.args in
-    let read : answer_outcome c.before.read.result ≡ register_read c.before.before.load.result.registers a.id = c.before.read.ensures in
-    c.answer-16.ensures
-    ∙ ap (outcome_number above16) (read ∙ ap (λ (s : State). register_read s.registers a.id) c.before.before.load.ensures)
+    let a = c.args in
+    let read : answer_outcome c.read.result ≡ register_read c.load.result.registers a.id = c.read.ensures in
+    c.answer_16.ensures
+    ∙ ap (outcome_number above16) (read ∙ ap (λ (s : State). register_read s.registers a.id) c.load.ensures)
     ∙ read-state a.state.now (omega arith) a.id
 
-pub dfb-read-spec : {M : Type 1} → statement M
-dfb-read-spec =
+pub dfb_read_spec : {M : Type 1} → statement M
+dfb_read_spec =
     tie.close
     (tie.spec
     (λ c κs. search rules)

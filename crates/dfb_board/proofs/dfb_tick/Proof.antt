@@ -11,28 +11,28 @@ use Rattle.dfb_board.proofs.Fits.{tick-fits}
 use Rattle.dfb_board.proofs.dfb_tick.Statement.{statement}
 use Rattle.dfb_board.proofs.dfb_tick.Tie as tie
 
-returns : tie.Need-returns
+returns : tie.Need-returns-then-state-ne-STATE
 returns c =
-    let a = c.before.before.before.before.before.before.args in
-    ap (λ (n : ℕ). record { answer = n; state = a.state.now; totals = a.totals.now; out = a.out.now }) c.above-16.ensures
-    ∙ tick-other a.state.now (λ e. c.before.if1.true (omega (arith, e))) a.totals.now a.powers.now a.out.now
+    let a = c.args in
+    ap (λ (n : ℕ). record { answer = n; state = a.state.now; totals = a.totals.now; out = a.out.now }) c.above_16.ensures
+    ∙ tick-other a.state.now (λ e. c.if-state-ne-STATE.true (omega (arith, e))) a.totals.now a.powers.now a.out.now
 
-tick-number-requires : tie.Need-tick-number-requires
+tick-number-requires : tie.Need-tick_number-requires
 tick-number-requires c κs =
-    let a = c.before.before.before.before.before.before.before.before.before.before.before.before.before.before.before.before.before.before.before.args in
-    subst (λ (o : TickOutcome). Fits o.answer o.state.reports) (sym c.before.before.before.before.before.before.before.before.before.tick.ensures)
-    (tick-fits c.before.before.before.before.before.before.before.before.before.before.before.before.load.result a.totals.now a.powers.now a.out.now)
+    let a = c.args in
+    subst (λ (o : TickOutcome). Fits o.answer o.state.reports) (sym c.tick-done.ensures)
+    (tick-fits c.load.result a.totals.now a.powers.now a.out.now)
 
-returns-2 : tie.Need-returns-2
+returns-2 : tie.Need-returns
 returns-2 c =
-    let at_load = c.before.before.before.before.before.before.before.before.before.before.before.before.before in
-    let a = at_load.before.before.before.before.before.before.before.args in
-    tick-done _ _ c.tick-number.ensures c.before.before.before.store.ensures
-    (c.before.before.before.before.before.before.before.before.before.before.tick.ensures ∙ ap (λ (s : State). tick_outcome s a.totals.now a.powers.now a.out.now) at_load.load.ensures)
+    let at_load = c in
+    let a = at_load.args in
+    tick-done _ _ c.tick_number.ensures c.store.ensures
+    (c.tick-done.ensures ∙ ap (λ (s : State). tick_outcome s a.totals.now a.powers.now a.out.now) at_load.load.ensures)
     ∙ tick-state a.state.now (omega arith) a.totals.now a.powers.now a.out.now
 
-pub dfb-tick-spec : {M : Type 1} → statement M
-dfb-tick-spec =
+pub dfb_tick_spec : {M : Type 1} → statement M
+dfb_tick_spec =
     tie.close
     (tie.spec
     (λ c κs. search rules)

@@ -10,8 +10,8 @@ use Rattle.dfb_board.proofs.load.Tie as tie
 
 returns : tie.Need-returns
 returns c =
-    let l = c.before.before.before.before.before.before.before.before.before.args.state.now in
-    ap (λ (v : List ℕ). record { registers = record { value = v }; phase = get_or l 7 0; reports = get_or l 8 0 }) (seven-of l c.before.before.before.before.before.before.before.before.before.requires)
+    let l = c.args.state.now in
+    ap (λ (v : List ℕ). record { registers = record { value = v }; phase = get_or l 7 0; reports = get_or l 8 0 }) (seven-of l c.requires)
 
 pub load_spec : {M : Type 1} → statement M
 load_spec =

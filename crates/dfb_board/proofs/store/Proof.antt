@@ -9,9 +9,9 @@ use Rattle.dfb_board.proofs.store.Tie as tie
 
 returns : tie.Need-returns
 returns c =
-    let a = c.before.before.before.before.before.before.before.before.args in
+    let a = c.args in
     let long : length a.from.registers.value ≡ 7 = search rules in
-    stored-nine a.state.now a.from c.before.before.before.before.before.before.before.before.requires long
+    stored-nine a.state.now a.from c.requires long
 
 pub store_spec : {M : Type 1} → statement M
 store_spec =

@@ -14,37 +14,37 @@ abbrev number : ℕ → TickAnswer → ℕ
 number reports a = reply_number (tick_reply a) reports
 
 -- the words of a report are few
-few : (c : tie.After-known-told) → c.before.answer.given.0.0 ≤ 392
+few : (c : tie.In-Reported) → c.in-Reported.words ≤ 392
 few c =
-    let s = c.before.before.before in
-    (subst (λ (a : TickAnswer). Fits (tick_reply a) s.args.reports) c.before.answer.given.1 s.requires).0
+    let s = c in
+    (subst (λ (a : TickAnswer). Fits (tick_reply a) s.args.reports) c.in-Reported.is s.requires).0
 
-mul-result : tie.Need-overflow-mul-result
+mul-result : tie.Need-overflow_mul-result
 mul-result c = omega (arith, few c)
 
-add-result : tie.Need-overflow-add-result
+add-result : tie.Need-overflow_add-result
 add-result c = omega (arith, few c)
 
-add-result-2 : tie.Need-overflow-add-result-2
+add-result-2 : tie.Need-overflow_add-result-in-Reported
 add-result-2 c = omega (arith, few c)
 
-returns : tie.Need-returns
-returns c = ap (number c.before.before.args.reports) (sym c.enum_told.given.1)
+returns : tie.Need-returns-in-Idle
+returns c = ap (number c.args.reports) (sym c.in-Idle.is)
 
-returns-2 : tie.Need-returns-2
-returns-2 c = ap (number c.before.before.args.reports) (sym c.enum-told2.given.1)
+returns-2 : tie.Need-returns-in-Collected
+returns-2 c = ap (number c.args.reports) (sym c.in-Collected.is)
 
-returns-3 : tie.Need-returns-3
-returns-3 c = ap (number c.before.before.args.reports) (sym c.enum-told3.given.1)
+returns-3 : tie.Need-returns-in-Waiting
+returns-3 c = ap (number c.args.reports) (sym c.in-Waiting.is)
 
-returns-4 : tie.Need-returns-4
-returns-4 c = ap (number c.before.before.before.args.reports) (sym c.before.answer.given.1)
+returns-4 : tie.Need-returns-in-Reported
+returns-4 c = ap (number c.args.reports) (sym c.in-Reported.is)
 
-returns-5 : tie.Need-returns-5
-returns-5 c = c.above-16.ensures ∙ ap (number c.before.before.before.before.args.reports) (sym c.before.before.answer2.given.1)
+returns-5 : tie.Need-returns-in-Refused
+returns-5 c = c.above_16.ensures ∙ ap (number c.args.reports) (sym c.in-Refused.is)
 
-pub tick-number-spec : {M : Type 1} → statement M
-tick-number-spec =
+pub tick_number_spec : {M : Type 1} → statement M
+tick_number_spec =
     tie.close
     (tie.spec
     (λ c. search rules)

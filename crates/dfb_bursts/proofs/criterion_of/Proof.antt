@@ -5,17 +5,17 @@ use Rattle.dfb_bursts.specs.Bursts.{criterion_of}
 use Rattle.dfb_bursts.proofs.criterion_of.Statement.{statement}
 use Rattle.dfb_bursts.proofs.criterion_of.Tie as tie
 
-returns : tie.Need-returns
-returns c = ap criterion_of (sym c.enum_told.given.1)
+returns : tie.Need-returns-in-Free
+returns c = ap criterion_of (sym c.in-Free.is)
 
-returns-2 : tie.Need-returns-2
-returns-2 c = ap criterion_of (sym c.before.state.given.1)
+returns-2 : tie.Need-returns-in-Held
+returns-2 c = ap criterion_of (sym c.in-Held.is)
 
-returns-3 : tie.Need-returns-3
-returns-3 c = ap criterion_of (sym c.enum-told2.given.1)
+returns-3 : tie.Need-returns-in-Sending
+returns-3 c = ap criterion_of (sym c.in-Sending.is)
 
-pub criterion-of-spec : {M : Type 1} → statement M
-criterion-of-spec =
+pub criterion_of_spec : {M : Type 1} → statement M
+criterion_of_spec =
     tie.close
     (tie.spec
     (λ c. search rules)

@@ -9,37 +9,37 @@ use Rattle.dfb_bursts.proofs.Bursts.{slots-alike, slots-few, on-refused, on-slot
 use Rattle.dfb_bursts.proofs.dfb_burst_choose.Statement.{statement}
 use Rattle.dfb_bursts.proofs.dfb_burst_choose.Tie as tie
 
-returns : tie.Need-returns
+returns : tie.Need-returns-then-refused-ne0
 unfolding burst_choose
 returns c =
-    let a = c.before.before.before.before.before.before.args in
-    ap (λ (n : ℕ). burst_left n a.status.now a.criteria.now) c.before.lists-refused.ensures
-    ∙ on-refused a.status.now a.criteria.now _ (λ e. c.if1.true (omega (arith, c.before.lists-refused.ensures, e)))
+    let a = c.args in
+    ap (λ (n : ℕ). burst_left n a.status.now a.criteria.now) c.lists_refused-refused.ensures
+    ∙ on-refused a.status.now a.criteria.now _ (λ e. c.if-refused-ne0.true (omega (arith, c.lists_refused-refused.ensures, e)))
 
-load-slots-requires : tie.Need-load-slots-requires
+load-slots-requires : tie.Need-load_slots-requires
 load-slots-requires c κs =
-    let a = c.before.before.before.before.before.before.before.before.args in
-    let e : lists_refused a.status.now a.criteria.now ≡ 0 = omega (arith, c.before.before.before.lists-refused.ensures) in
+    let a = c.args in
+    let e : lists_refused a.status.now a.criteria.now ≡ 0 = omega (arith, c.lists_refused-refused.ensures) in
     (slots-few a.status.now a.criteria.now e, slots-alike a.status.now a.criteria.now e)
 
-write-done-requires : tie.Need-write-done-requires
+write-done-requires : tie.Need-write_done-requires
 write-done-requires c κs =
-    let a = c.before.before.before.before.before.before.before.before.before.before.before.before.args in
-    let e : lists_refused a.status.now a.criteria.now ≡ 0 = omega (arith, c.before.before.before.before.before.before.before.lists-refused.ensures) in
-    (slots-few a.status.now a.criteria.now e, (slots-alike a.status.now a.criteria.now e, (subst (SmallDone a.status.now a.criteria.now) (sym c.before.before.choose.ensures) (choose-small a.status.now a.criteria.now _)).fits))
+    let a = c.args in
+    let e : lists_refused a.status.now a.criteria.now ≡ 0 = omega (arith, c.lists_refused-refused.ensures) in
+    (slots-few a.status.now a.criteria.now e, (slots-alike a.status.now a.criteria.now e, (subst (SmallDone a.status.now a.criteria.now) (sym c.choose-done.ensures) (choose-small a.status.now a.criteria.now _)).fits))
 
-returns-2 : tie.Need-returns-2
+returns-2 : tie.Need-returns
 unfolding burst_choose
 returns-2 c =
-    let a = c.before.before.before.before.before.before.before.before.before.before.before.before.before.before.before.before.before.args in
-    let e : lists_refused a.status.now a.criteria.now ≡ 0 = omega (arith, c.before.before.before.before.before.before.before.before.before.before.before.before.lists-refused.ensures) in
-    let done : done_outcome c.before.before.before.before.before.before.before.choose.result ≡ choose_outcome c.before.before.before.before.before.before.before.before.load-slots.result = c.before.before.before.before.before.before.before.choose.ensures in
-    c.before.before.before.before.write_done.ensures
-    ∙ ap (λ (o : SlotsOutcome). done_call a.status.now a.criteria.now o.answer o.slots) (done ∙ ap choose_outcome c.before.before.before.before.before.before.before.before.load-slots.ensures)
+    let a = c.args in
+    let e : lists_refused a.status.now a.criteria.now ≡ 0 = omega (arith, c.lists_refused-refused.ensures) in
+    let done : done_outcome c.choose-done.result ≡ choose_outcome c.load_slots.result = c.choose-done.ensures in
+    c.write_done.ensures
+    ∙ ap (λ (o : SlotsOutcome). done_call a.status.now a.criteria.now o.answer o.slots) (done ∙ ap choose_outcome c.load_slots.ensures)
     ∙ on-slots a.status.now a.criteria.now _ e
 
-pub dfb-burst-choose-spec : {M : Type 1} → statement M
-dfb-burst-choose-spec =
+pub dfb_burst_choose_spec : {M : Type 1} → statement M
+dfb_burst_choose_spec =
     tie.close
     (tie.spec
     (λ c κs. search rules)

@@ -10,37 +10,37 @@ use Rattle.dfb_bursts.proofs.Bursts.{slots-alike, slots-few, on-refused, on-slot
 use Rattle.dfb_bursts.proofs.dfb_burst_offer.Statement.{statement}
 use Rattle.dfb_bursts.proofs.dfb_burst_offer.Tie as tie
 
-returns : tie.Need-returns
+returns : tie.Need-returns-then-refused-ne0
 unfolding burst_offer
 returns c =
-    let a = c.before.before.before.before.before.before.args in
-    ap (λ (n : ℕ). burst_left n a.status.now a.criteria.now) c.before.lists-refused.ensures
-    ∙ on-refused a.status.now a.criteria.now _ (λ e. c.if1.true (omega (arith, c.before.lists-refused.ensures, e)))
+    let a = c.args in
+    ap (λ (n : ℕ). burst_left n a.status.now a.criteria.now) c.lists_refused-refused.ensures
+    ∙ on-refused a.status.now a.criteria.now _ (λ e. c.if-refused-ne0.true (omega (arith, c.lists_refused-refused.ensures, e)))
 
-load-slots-requires : tie.Need-load-slots-requires
+load-slots-requires : tie.Need-load_slots-requires
 load-slots-requires c κs =
-    let a = c.before.before.before.before.before.before.before.before.args in
-    let e : lists_refused a.status.now a.criteria.now ≡ 0 = omega (arith, c.before.before.before.lists-refused.ensures) in
+    let a = c.args in
+    let e : lists_refused a.status.now a.criteria.now ≡ 0 = omega (arith, c.lists_refused-refused.ensures) in
     (slots-few a.status.now a.criteria.now e, slots-alike a.status.now a.criteria.now e)
 
-write-offered-requires : tie.Need-write-offered-requires
+write-offered-requires : tie.Need-write_offered-requires
 write-offered-requires c κs =
-    let a = c.before.before.before.before.before.before.before.before.before.before.before.before.args in
-    let e : lists_refused a.status.now a.criteria.now ≡ 0 = omega (arith, c.before.before.before.before.before.before.before.lists-refused.ensures) in
-    (slots-few a.status.now a.criteria.now e, (slots-alike a.status.now a.criteria.now e, (subst (SmallOffer a.status.now a.criteria.now) (sym c.before.before.offer.ensures) (offer-small a.status.now a.criteria.now _ _)).fits))
+    let a = c.args in
+    let e : lists_refused a.status.now a.criteria.now ≡ 0 = omega (arith, c.lists_refused-refused.ensures) in
+    (slots-few a.status.now a.criteria.now e, (slots-alike a.status.now a.criteria.now e, (subst (SmallOffer a.status.now a.criteria.now) (sym c.offer-offered.ensures) (offer-small a.status.now a.criteria.now _ _)).fits))
 
-returns-2 : tie.Need-returns-2
+returns-2 : tie.Need-returns
 unfolding burst_offer
 returns-2 c =
-    let a = c.before.before.before.before.before.before.before.before.before.before.before.before.before.before.before.before.before.args in
-    let e : lists_refused a.status.now a.criteria.now ≡ 0 = omega (arith, c.before.before.before.before.before.before.before.before.before.before.before.before.lists-refused.ensures) in
-    let done : offered_outcome c.before.before.before.before.before.before.before.offer.result ≡ offer_outcome c.before.before.before.before.before.before.before.before.load-slots.result a.criterion = c.before.before.before.before.before.before.before.offer.ensures in
-    c.before.before.before.before.write-offered.ensures
-    ∙ ap (λ (o : OfferOutcome). offer_call a.status.now a.criteria.now o.answer o.slots) (done ∙ ap (λ (s : Slots). offer_outcome s a.criterion) c.before.before.before.before.before.before.before.before.load-slots.ensures)
+    let a = c.args in
+    let e : lists_refused a.status.now a.criteria.now ≡ 0 = omega (arith, c.lists_refused-refused.ensures) in
+    let done : offered_outcome c.offer-offered.result ≡ offer_outcome c.load_slots.result a.criterion = c.offer-offered.ensures in
+    c.write_offered.ensures
+    ∙ ap (λ (o : OfferOutcome). offer_call a.status.now a.criteria.now o.answer o.slots) (done ∙ ap (λ (s : Slots). offer_outcome s a.criterion) c.load_slots.ensures)
     ∙ on-slots a.status.now a.criteria.now _ e
 
-pub dfb-burst-offer-spec : {M : Type 1} → statement M
-dfb-burst-offer-spec =
+pub dfb_burst_offer_spec : {M : Type 1} → statement M
+dfb_burst_offer_spec =
     tie.close
     (tie.spec
     (λ c κs. search rules)

@@ -9,25 +9,25 @@ use Rattle.dfb_bursts.proofs.Bursts.{lists-other, lists-unsound, lists-of-slots}
 use Rattle.dfb_bursts.proofs.lists_refused.Statement.{statement}
 use Rattle.dfb_bursts.proofs.lists_refused.Tie as tie
 
-returns : tie.Need-returns
+returns : tie.Need-returns-then-status-criteria
 returns c =
-    let a = c.before.before.before.before.args in
-    c.above-16.ensures ∙ lists-other a.status.now a.criteria.now (λ e. c.before.if1.true (omega (arith, e)))
+    let a = c.args in
+    c.above_16.ensures ∙ lists-other a.status.now a.criteria.now (λ e. c.if-status-criteria.true (omega (arith, e)))
 
-returns-2 : tie.Need-returns-2
+returns-2 : tie.Need-returns-then-not-are_slots
 returns-2 c =
-    let a = c.before.before.before.before.before.before.args in
-    let e : are_slots a.status.now ≡ false = sym c.before.before.are-slots.ensures ∙ not-true _ c.before.if2.true in
-    c.above-162.ensures ∙ lists-unsound a.status.now a.criteria.now (omega arith) e
+    let a = c.args in
+    let e : are_slots a.status.now ≡ false = sym c.are_slots.ensures ∙ not-true _ c.if-not-are_slots.true-raw in
+    c.above_16-then-not-are_slots.ensures ∙ lists-unsound a.status.now a.criteria.now (omega arith) e
 
-returns-3 : tie.Need-returns-3
+returns-3 : tie.Need-returns
 returns-3 c =
-    let a = c.before.before.before.before.before.args in
-    let e : are_slots a.status.now ≡ true = sym c.before.are-slots.ensures ∙ not-false _ c.if2.false in
+    let a = c.args in
+    let e : are_slots a.status.now ≡ true = sym c.are_slots.ensures ∙ not-false _ c.if-not-are_slots.false-raw in
     lists-of-slots a.status.now a.criteria.now (omega arith) e
 
-pub lists-refused-spec : {M : Type 1} → statement M
-lists-refused-spec =
+pub lists_refused_spec : {M : Type 1} → statement M
+lists_refused_spec =
     tie.close
     (tie.spec
     (λ c κs. search rules)

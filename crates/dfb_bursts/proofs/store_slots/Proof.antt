@@ -12,67 +12,67 @@ use Rattle.dfb_bursts.proofs.Bursts.{stored}
 use Rattle.dfb_bursts.proofs.store_slots.Statement.{statement}
 use Rattle.dfb_bursts.proofs.store_slots.Tie as tie
 
-abbrev invariant-loop : tie.invariant-loop
+abbrev invariant-loop : tie.invariant-loop-i
 invariant-loop status₀ criteria₀ slots i₀ status criteria i = (i ≤ length status₀) × (length status₀ ≤ 32) × (length status₀ ≡ length criteria₀) × (length status ≡ length status₀) × (length criteria ≡ length criteria₀) × (status ≡ overwrite (tabulate i (λ j. status_of (slot_state_of slots j))) status₀) × (criteria ≡ overwrite (tabulate i (λ j. criterion_of (slot_state_of slots j))) criteria₀)
 
-abbrev decreases-loop : tie.decreases-loop
+abbrev decreases-loop : tie.decreases-loop-i
 decreases-loop status₀ criteria₀ slots i₀ status criteria i = length status₀ - i
 
-loop-holds : tie.Need-loop-init invariant-loop decreases-loop
+loop-holds : tie.Need-loop-i-init invariant-loop decreases-loop
 loop-holds c = (omega arith, search rules, search rules, refl, refl, table_none _ _, table_none _ _)
 
-mul-slot : tie.Need-overflow-mul-slot invariant-loop decreases-loop
+mul-slot : tie.Need-offset_bounds-slots-i invariant-loop decreases-loop
 mul-slot c = search rules
 
-element-copy-out-slot : tie.Need-element-copy-out-slot invariant-loop decreases-loop
+element-copy-out-slot : tie.Need-bounds-slots-i invariant-loop decreases-loop
 element-copy-out-slot c = search rules
 
-status-of-requires : tie.Need-status-of-requires invariant-loop decreases-loop
+status-of-requires : tie.Need-status_of-requires invariant-loop decreases-loop
 status-of-requires c κs = search rules
 
-slice-write-status : tie.Need-slice-write-status invariant-loop decreases-loop
+slice-write-status : tie.Need-bounds-status-i invariant-loop decreases-loop
 slice-write-status c = search rules
 
-criterion-of-requires : tie.Need-criterion-of-requires invariant-loop decreases-loop
+criterion-of-requires : tie.Need-criterion_of-requires invariant-loop decreases-loop
 criterion-of-requires c κs = search rules
 
-mul-criteria : tie.Need-overflow-mul-criteria invariant-loop decreases-loop
+mul-criteria : tie.Need-offset_bounds-criteria-i invariant-loop decreases-loop
 mul-criteria c = search rules
 
-slice-write-criteria : tie.Need-slice-write-criteria invariant-loop decreases-loop
+slice-write-criteria : tie.Need-bounds-criteria-i invariant-loop decreases-loop
 slice-write-criteria c = search rules
 
-add-i : tie.Need-overflow-add-i invariant-loop decreases-loop
+add-i : tie.Need-overflow_add-i invariant-loop decreases-loop
 add-i c = search rules
 
-loop-less : tie.Need-loop-smaller invariant-loop decreases-loop
+loop-less : tie.Need-loop-i-smaller invariant-loop decreases-loop
 loop-less c = search rules
 
-loop-again : tie.Need-loop-preserved invariant-loop decreases-loop
+loop-again : tie.Need-loop-i-preserved invariant-loop decreases-loop
 loop-again c =
-    let l = c.before.before.before.before.loop in (
+    let l = c.loop-i in (
       omega arith,
       l.invariant.1,
       l.invariant.2,
       simp length-set l.invariant.3,
       simp length-set l.invariant.4,
-      table_more _ _ l.i _ 0 _ l.invariant.5 (omega arith) c.before.status-of.ensures,
-      table_more _ _ l.i _ 0 _ l.invariant.6 (omega arith) c.criterion-of.ensures,
+      table_more _ _ l.i _ 0 _ l.invariant.5 (omega arith) c.status_of.ensures,
+      table_more _ _ l.i _ 0 _ l.invariant.6 (omega arith) c.criterion_of.ensures,
     )
 
-same_length : tie.Need-same-length invariant-loop decreases-loop
-same_length c = c.before.loop.invariant.3
+same_length : tie.Need-shape_of-status invariant-loop decreases-loop
+same_length c = c.loop-i.invariant.3
 
-same-length-2 : tie.Need-same-length-2 invariant-loop decreases-loop
-same-length-2 c = c.before.loop.invariant.4
+same-length-2 : tie.Need-shape_of-criteria invariant-loop decreases-loop
+same-length-2 c = c.loop-i.invariant.4
 
 returns : tie.Need-returns invariant-loop decreases-loop
 returns c =
-    let l = c.before.loop in
+    let l = c.loop-i in
     (stored _ _ _ l.i _ refl (omega arith) l.invariant.5, stored _ _ _ l.i _ l.invariant.2 (omega arith) l.invariant.6)
 
-pub store-slots-spec : {M : Type 1} → statement M
-store-slots-spec =
+pub store_slots_spec : {M : Type 1} → statement M
+store_slots_spec =
     tie.close
     (tie.spec
     invariant-loop

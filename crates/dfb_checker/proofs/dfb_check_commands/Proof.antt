@@ -14,33 +14,32 @@ use Rattle.dfb_checker.proofs.Theorems.{too_long, verdict-answered}
 use Rattle.dfb_checker.proofs.dfb_check_commands.Statement.{statement}
 use Rattle.dfb_checker.proofs.dfb_check_commands.Tie as tie
 
-returns : tie.Need-returns
+returns : tie.Need-returns-then-log-ge-TOO_LONG
 returns c =
-    let a = c.before.before.before.before.args in
-    numbered above63 _ c.above-63.ensures (too_long a.log.now a.registers.now (omega (arith, c.before.if1.true)))
+    let a = c.args in
+    numbered above63 _ c.above_63.ensures (too_long a.log.now a.registers.now (omega (arith, c.if-log-ge-TOO_LONG.true)))
 
-returns-2 : tie.Need-returns-2
+returns-2 : tie.Need-returns-in-Accepted
 returns-2 c =
-    let a = c.before.before.before.before.before.before.before.before.before.before.args in
-    let v = c.before.before.before.before.before.before.check.ensures in
-    let e = sym (ap (λ (x : Checked). x.judged) v) ∙ ap judgement_outcome c.before.before.before.before.enum_told.given.1 in
-    c.before.before.put-registers.ensures
+    let a = c.args in
+    let v = c.check-verdict.ensures in
+    let e = sym (ap (λ (x : Checked). x.judged) v) ∙ ap judgement_outcome c.in-Accepted.is in
+    c.put_registers.ensures
     ∙ ap (λ (r : Registers). filled_number above63 (judged_answer accepted r a.registers.now)) (ap (λ (x : Checked). x.registers) v)
-    ∙ sym (ap (filled_number above63) (verdict-answered a.log.now a.registers.now accepted (omega (arith, c.before.before.before.before.before.before.before.if1.false)) e))
+    ∙ sym (ap (filled_number above63) (verdict-answered a.log.now a.registers.now accepted (omega (arith, c.if-log-ge-TOO_LONG.false)) e))
 
-returns-3 : tie.Need-returns-3
+returns-3 : tie.Need-returns-in-Refused
 returns-3 c =
-    let a = c.before.before.before.before.before.before.before.before.args in
-    let j = c.before.before.judgement.given in
-    let n = number_of j.0.0 in
-    let offset = j.0.1.0 in
-    let e = sym (ap (λ (x : Checked). x.judged) c.before.before.before.before.check.ensures) ∙ ap judgement_outcome j.1 in
-    let whole : offset % 2 ^ 55 ≡ offset = omega (arith, (check-refusals a.log.now n offset e).inside, c.before.before.before.before.before.if1.false) in
-    numbered above63 _ (c.above-63-at.ensures ∙ ap (λ (k : ℕ). above63 + with_offset n k) whole)
-    (sym (verdict-answered a.log.now a.registers.now (refused_at n offset) (omega (arith, c.before.before.before.before.before.if1.false)) e))
+    let a = c.args in
+    let n = number_of c.in-Refused.refusal in
+    let offset = c.in-Refused.offset in
+    let e = sym (ap (λ (x : Checked). x.judged) c.check-verdict.ensures) ∙ ap judgement_outcome c.in-Refused.is in
+    let whole : offset % 2 ^ 55 ≡ offset = omega (arith, (check-refusals a.log.now n offset e).inside, c.if-log-ge-TOO_LONG.false) in
+    numbered above63 _ (c.above_63_at.ensures ∙ ap (λ (k : ℕ). above63 + with_offset n k) whole)
+    (sym (verdict-answered a.log.now a.registers.now (refused_at n offset) (omega (arith, c.if-log-ge-TOO_LONG.false)) e))
 
-pub dfb-check-commands-spec : {M : Type 1} → statement M
-dfb-check-commands-spec =
+pub dfb_check_commands_spec : {M : Type 1} → statement M
+dfb_check_commands_spec =
     tie.close
     (tie.spec
     (λ c κs. search rules)

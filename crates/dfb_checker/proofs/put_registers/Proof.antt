@@ -16,10 +16,10 @@ use Rattle.dfb_refusals.proofs.Values.{values-short, values-fit}
 use Rattle.dfb_checker.proofs.put_registers.Statement.{statement}
 use Rattle.dfb_checker.proofs.put_registers.Tie as tie
 
-abbrev invariant-loop : tie.invariant-loop
+abbrev invariant-loop : tie.invariant-loop-n
 invariant-loop list₀ registers n₀ list n = (n ≤ 7) × (length list ≡ length list₀) × (list ≡ overwrite (tabulate n (register registers)) list₀)
 
-abbrev decreases-loop : tie.decreases-loop
+abbrev decreases-loop : tie.decreases-loop-n
 decreases-loop list₀ registers n₀ list n = 7 - n
 
 -- the values that are put
@@ -29,19 +29,19 @@ values r = record { number = 0; values = tabulate 7 (register r) }
 seven : (r : Registers) → length (tabulate 7 (register r)) ≡ 7
 seven r = length-tabulate 7 (register r)
 
-returns : tie.Need-returns invariant-loop decreases-loop
+returns : tie.Need-returns-then-list-lt-COUNT invariant-loop decreases-loop
 returns c =
-    let a = c.before.before.before.args in
-    numbered above63 _ c.above-63.ensures (values-short (values a.t1) a.list.now (omega (arith, seven a.t1, c.before.if1.true)))
+    let a = c.args in
+    numbered above63 _ c.above_63.ensures (values-short (values a.registers) a.list.now (omega (arith, seven a.registers, c.if-list-lt-COUNT.true)))
 
-loop-holds : tie.Need-loop-init invariant-loop decreases-loop
-loop-holds c = (omega arith, refl, table_none (register c.before.before.args.t1) c.before.before.args.list.now)
+loop-holds : tie.Need-loop-n-init invariant-loop decreases-loop
+loop-holds c = (omega arith, refl, table_none (register c.args.registers) c.args.list.now)
 
-loop-again : tie.Need-loop-preserved invariant-loop decreases-loop
+loop-again : tie.Need-loop-n-preserved invariant-loop decreases-loop
 loop-again c =
-    let a = c.before.before.before.before.before.args in
-    let l = c.before.before.loop in
-    (omega arith, simp length-set l.invariant.1, table_more (register a.t1) a.list.now l.n _ 0 l.list l.invariant.2 (omega (arith, c.before.before.before.if1.false)) refl)
+    let a = c.args in
+    let l = c.loop-n in
+    (omega arith, simp length-set l.invariant.1, table_more (register a.registers) a.list.now l.n _ 0 l.list l.invariant.2 (omega (arith, c.if-list-lt-COUNT.false)) refl)
 
 -- all seven
 filled-all : (r : Registers) (before list : List ℕ) (n : ℕ) → n ≡ 7 → 7 ≤ length before → list ≡ overwrite (tabulate n (register r)) before
@@ -50,14 +50,14 @@ filled-all r before list n e h p =
     ap (λ (l : List ℕ). record { answer = 0; buffer = l }) (p ∙ ap (λ (k : ℕ). overwrite (tabulate k (register r)) before) e)
     ∙ ap (filled_number above63) (values-fit (values r) before (omega (arith, seven r)))
 
-returns-2 : tie.Need-returns-2 invariant-loop decreases-loop
+returns-2 : tie.Need-returns invariant-loop decreases-loop
 returns-2 c =
-    let a = c.before.before.before.before.args in
-    let l = c.before.loop in
-    filled-all a.t1 a.list.now l.list l.n (omega (arith, l.invariant.0)) (omega (arith, c.before.before.if1.false)) l.invariant.2
+    let a = c.args in
+    let l = c.loop-n in
+    filled-all a.registers a.list.now l.list l.n (omega (arith, l.invariant.0)) (omega (arith, c.if-list-lt-COUNT.false)) l.invariant.2
 
-pub put-registers-spec : {M : Type 1} → statement M
-put-registers-spec =
+pub put_registers_spec : {M : Type 1} → statement M
+put_registers_spec =
     tie.close
     (tie.spec
     invariant-loop
@@ -72,5 +72,5 @@ put-registers-spec =
     (λ c. omega arith)
     (λ c. omega arith)
     loop-again
-    (λ c. c.before.loop.invariant.1)
+    (λ c. c.loop-n.invariant.1)
     returns-2)

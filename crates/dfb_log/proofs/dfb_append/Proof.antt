@@ -16,41 +16,41 @@ use Rattle.dfb_log.proofs.dfb_append.Tie as tie
 known : (kind : ℕ) → 0x01 ≤ kind → kind ≤ 0x04 → is_kind kind ≡ true
 known kind h k = simp (le-leb 0x01 kind h, le-leb kind 0x04 k)
 
-returns : tie.Need-returns
+returns : tie.Need-returns-then-kind-lt-COMMAND
 returns c =
-    let a = c.before.before.before.args in
+    let a = c.args in
     let below : is_kind a.kind ≡ false = simp (lt-leb 0x01 a.kind (omega arith)) in
-    numbered above63 _ c.above-63.ensures (append-other a.log.now a.used a.kind a.a a.b below)
+    numbered above63 _ c.above_63.ensures (append-other a.log.now a.used a.kind a.a a.b below)
 
-returns-2 : tie.Need-returns-2
+returns-2 : tie.Need-returns-then-kind-gt-TICK
 returns-2 c =
-    let a = c.before.before.before.before.args in
+    let a = c.args in
     let over : is_kind a.kind ≡ false = simp (le-leb 0x01 a.kind (omega arith), lt-leb a.kind 0x04 (omega arith)) in
-    numbered above63 _ c.above-632.ensures (append-other a.log.now a.used a.kind a.a a.b over)
+    numbered above63 _ c.above_63-then-kind-gt-TICK.ensures (append-other a.log.now a.used a.kind a.a a.b over)
 
-returns-3 : tie.Need-returns-3
+returns-3 : tie.Need-returns-then-is_wide
 returns-3 c =
-    let at-if3 = c.before.before in
-    let a = at-if3.before.before.before.before.before.args in
-    numbered above63 _ (c.above-633.ensures ∙ ap (λ (n : ℕ). above63 + n) c.before.wide-refusal.ensures)
+    let at-if3 = c in
+    let a = at-if3.args in
+    numbered above63 _ (c.above_63-then-is_wide.ensures ∙ ap (λ (n : ℕ). above63 + n) c.wide_refusal.ensures)
     (append-wide a.log.now a.used a.kind a.a a.b (known a.kind (omega arith) (omega arith))
-    (sym at-if3.before.is_IsWide.ensures ∙ at-if3.if3.true))
+    (sym at-if3.before.is_wide.ensures ∙ at-if3.if-is_wide.true))
 
-record-of-requires : tie.Need-record-of-requires
-record-of-requires c κs = sym c.before.before.is_IsWide.ensures ∙ c.before.if3.false
+record-of-requires : tie.Need-record_of-requires
+record-of-requires c κs = sym c.before.before.is_wide.ensures ∙ c.if-is_wide.false
 
-returns-4 : tie.Need-returns-4
+returns-4 : tie.Need-returns
 returns-4 c =
-    let at-if3 = c.before.before.before.before.before.before in
-    let a = at-if3.before.before.before.before.before.args in
-    numbered above63 _ c.written-63.ensures
-    (c.before.before.before.append.ensures
-    ∙ ap (append_outcome a.log.now a.used) c.before.before.before.before.record_of.ensures
+    let at-if3 = c in
+    let a = at-if3.args in
+    numbered above63 _ c.written_63.ensures
+    (c.append.ensures
+    ∙ ap (append_outcome a.log.now a.used) c.record_of.ensures
     ∙ append-record a.log.now a.used a.kind a.a a.b (known a.kind (omega arith) (omega arith))
-    (sym at-if3.before.is_IsWide.ensures ∙ at-if3.if3.false))
+    (sym at-if3.before.is_wide.ensures ∙ at-if3.if-is_wide.false))
 
-pub dfb-append-spec : {M : Type 1} → statement M
-dfb-append-spec =
+pub dfb_append_spec : {M : Type 1} → statement M
+dfb_append_spec =
     tie.close
     (tie.spec
     (λ c κs. search rules)

@@ -6,10 +6,10 @@ use Rattle.dfb_log.proofs.dfb_listing.Statement.{statement}
 use Rattle.dfb_log.proofs.dfb_listing.Tie as tie
 
 returns : tie.Need-returns
-returns c = numbered above63 _ c.written-63.ensures c.before.before.before.listing.ensures
+returns c = numbered above63 _ c.written_63.ensures c.listing.ensures
 
-pub dfb-listing-spec : {M : Type 1} → statement M
-dfb-listing-spec =
+pub dfb_listing_spec : {M : Type 1} → statement M
+dfb_listing_spec =
     tie.close
     (tie.spec
     (λ c κs. search rules)

@@ -7,14 +7,14 @@ use Rattle.dfb_log.proofs.Small.{Small, pack-small}
 use Rattle.dfb_log.proofs.dfb_pack.Statement.{statement}
 use Rattle.dfb_log.proofs.dfb_pack.Tie as tie
 
-written-16-requires : tie.Need-written-16-requires
-written-16-requires c κs = (subst Small (sym c.before.before.pack.ensures) (pack-small _ _ _)).fits
+written-16-requires : tie.Need-written_16-requires
+written-16-requires c κs = (subst Small (sym c.pack.ensures) (pack-small _ _ _)).fits
 
 returns : tie.Need-returns
-returns c = numbered above16 _ c.written-16.ensures c.before.before.before.pack.ensures
+returns c = numbered above16 _ c.written_16.ensures c.pack.ensures
 
-pub dfb-pack-spec : {M : Type 1} → statement M
-dfb-pack-spec =
+pub dfb_pack_spec : {M : Type 1} → statement M
+dfb_pack_spec =
     tie.close
     (tie.spec
     (λ c κs. search rules)

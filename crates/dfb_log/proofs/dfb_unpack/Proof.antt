@@ -7,14 +7,14 @@ use Rattle.dfb_log.proofs.Small.{Small, unpack-small}
 use Rattle.dfb_log.proofs.dfb_unpack.Statement.{statement}
 use Rattle.dfb_log.proofs.dfb_unpack.Tie as tie
 
-written-16-requires : tie.Need-written-16-requires
-written-16-requires c κs = (subst Small (sym c.before.unpack.ensures) (unpack-small _ _ _)).fits
+written-16-requires : tie.Need-written_16-requires
+written-16-requires c κs = (subst Small (sym c.unpack.ensures) (unpack-small _ _ _)).fits
 
 returns : tie.Need-returns
-returns c = numbered above16 _ c.written-16.ensures c.before.before.unpack.ensures
+returns c = numbered above16 _ c.written_16.ensures c.unpack.ensures
 
-pub dfb-unpack-spec : {M : Type 1} → statement M
-dfb-unpack-spec =
+pub dfb_unpack_spec : {M : Type 1} → statement M
+dfb_unpack_spec =
     tie.close
     (tie.spec
     (λ c κs. search rules)

@@ -7,16 +7,16 @@ use borrow.Author.Tests.{le-leb, lt-leb}
 use Rattle.dfb_log.proofs.is_wide.Statement.{statement}
 use Rattle.dfb_log.proofs.is_wide.Tie as tie
 
-returns : tie.Need-returns
+returns : tie.Need-returns-then-kind-le-WORD
 returns c =
-    let a = c.before.args in
+    let a = c.args in
     sym (ap (λ (t : Bool). t && ltb 0xFFFF a.b) (le-leb a.kind 0x02 (omega arith)))
 
-returns-2 : tie.Need-returns-2
-returns-2 c = simp (lt-leb c.before.args.kind 0x02 (omega arith))
+returns-2 : tie.Need-returns-else-kind-le-WORD
+returns-2 c = simp (lt-leb c.args.kind 0x02 (omega arith))
 
-pub is-wide-spec : {M : Type 1} → statement M
-is-wide-spec =
+pub is_wide_spec : {M : Type 1} → statement M
+is_wide_spec =
     tie.close
     (tie.spec
     returns

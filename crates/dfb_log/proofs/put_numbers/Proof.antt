@@ -9,19 +9,19 @@ use Rattle.dfb_refusals.proofs.Values.{values-short, values-stored}
 use Rattle.dfb_log.proofs.put_numbers.Statement.{statement}
 use Rattle.dfb_log.proofs.put_numbers.Tie as tie
 
-returns : tie.Need-returns
+returns : tie.Need-returns-then-numbers-lt3
 returns c =
-    let x = c.before.before.before.args in
-    numbered above63 _ c.above-63.ensures
+    let x = c.args in
+    numbered above63 _ c.above_63.ensures
     (values-short (record { number = x.place; values = x.kind ∷ x.a ∷ x.b ∷ [] }) x.numbers.now (omega arith))
 
-returns-2 : tie.Need-returns-2
+returns-2 : tie.Need-returns
 returns-2 c =
-    let x = c.before.before.args in
+    let x = c.args in
     values-stored (record { number = x.place; values = x.kind ∷ x.a ∷ x.b ∷ [] }) x.numbers.now above63 (omega arith)
 
-pub put-numbers-spec : {M : Type 1} → statement M
-put-numbers-spec =
+pub put_numbers_spec : {M : Type 1} → statement M
+put_numbers_spec =
     tie.close
     (tie.spec
     (λ c κs. search rules)

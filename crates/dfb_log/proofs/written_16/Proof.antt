@@ -9,15 +9,15 @@ use Rattle.dfb_refusals.proofs.Numbers.{refused-number}
 use Rattle.dfb_log.proofs.written_16.Statement.{statement}
 use Rattle.dfb_log.proofs.written_16.Tie as tie
 
-cast-result : tie.Need-overflow-cast-result
-cast-result c = omega (arith, ap (λ (w : Written). outcome_number above16 (written_outcome w)) c.before.written.given.1)
+cast-result : tie.Need-overflow_cast-result
+cast-result c = omega (arith, ap (λ (w : Written). outcome_number above16 (written_outcome w)) c.in-Count.is)
 
-returns-2 : tie.Need-returns-2
+returns-2 : tie.Need-returns-in-Refused
 returns-2 c =
-    refused-number above16 c.before.before.written2.given.0.0 c.above-16.ensures (ap written_outcome (sym c.before.before.written2.given.1))
+    refused-number above16 c.in-Refused.refusal c.above_16.ensures (ap written_outcome (sym c.in-Refused.is))
 
-pub written-16-spec : {M : Type 1} → statement M
-written-16-spec =
+pub written_16_spec : {M : Type 1} → statement M
+written_16_spec =
     tie.close
     (tie.spec
     (λ c. search rules)

@@ -8,15 +8,15 @@ use Rattle.dfb_refusals.proofs.Numbers.{refused-number}
 use Rattle.dfb_log.proofs.written_63.Statement.{statement}
 use Rattle.dfb_log.proofs.written_63.Tie as tie
 
-returns : tie.Need-returns
-returns c = ap (λ (w : Written). outcome_number above63 (written_outcome w)) (sym c.before.written.given.1)
+returns : tie.Need-returns-in-Count
+returns c = ap (λ (w : Written). outcome_number above63 (written_outcome w)) (sym c.in-Count.is)
 
-returns-2 : tie.Need-returns-2
+returns-2 : tie.Need-returns-in-Refused
 returns-2 c =
-    refused-number above63 c.before.before.written2.given.0.0 c.above-63.ensures (ap written_outcome (sym c.before.before.written2.given.1))
+    refused-number above63 c.in-Refused.refusal c.above_63.ensures (ap written_outcome (sym c.in-Refused.is))
 
-pub written-63-spec : {M : Type 1} → statement M
-written-63-spec =
+pub written_63_spec : {M : Type 1} → statement M
+written_63_spec =
     tie.close
     (tie.spec
     (λ c. search rules)

@@ -5,23 +5,23 @@ use Rattle.dfb_walk.specs.Next.{b_of}
 use Rattle.dfb_walk.proofs.b_of.Statement.{statement}
 use Rattle.dfb_walk.proofs.b_of.Tie as tie
 
-returns : tie.Need-returns
-returns c = sym (ap b_of c.before.before.item.given.1)
+returns : tie.Need-returns-in-Command
+returns c = sym (ap b_of c.in-Command.is)
 
-returns-2 : tie.Need-returns-2
-returns-2 c = sym (ap b_of c.before.item2.given.1)
+returns-2 : tie.Need-returns-in-Waveform
+returns-2 c = sym (ap b_of c.in-Waveform.is)
 
-returns-3 : tie.Need-returns-3
-returns-3 c = sym (ap b_of c.before.item3.given.1)
+returns-3 : tie.Need-returns-in-Spectra
+returns-3 c = sym (ap b_of c.in-Spectra.is)
 
-returns-4 : tie.Need-returns-4
-returns-4 c = sym (ap b_of c.enum_told.given.1)
+returns-4 : tie.Need-returns-in-SecondMark
+returns-4 c = sym (ap b_of c.in-SecondMark.is)
 
-returns-5 : tie.Need-returns-5
-returns-5 c = sym (ap b_of c.enum-told2.given.1)
+returns-5 : tie.Need-returns-in-Tick
+returns-5 c = sym (ap b_of c.in-Tick.is)
 
-pub b-of-spec : {M : Type 1} → statement M
-b-of-spec =
+pub b_of_spec : {M : Type 1} → statement M
+b_of_spec =
     tie.close
     (tie.spec
     (λ c. search rules)

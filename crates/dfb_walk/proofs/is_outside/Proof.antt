@@ -8,18 +8,18 @@ use lib.ListN.{length}
 use Rattle.dfb_walk.proofs.is_outside.Statement.{statement}
 use Rattle.dfb_walk.proofs.is_outside.Tie as tie
 
-returns : tie.Need-returns
-returns c = let a = c.before.args in simp (le-leb (2 ^ 55) a.bytes (omega (arith, c.if1.true)))
+returns : tie.Need-returns-then-bytes-ge-TOO_LONG
+returns c = let a = c.args in simp (le-leb (2 ^ 55) a.bytes (omega (arith, c.if-bytes-ge-TOO_LONG.true)))
 
-returns-2 : tie.Need-returns-2
+returns-2 : tie.Need-returns-then-walk-ne-WALK
 returns-2 c =
-    let a = c.before.before.args in
-    simp (lt-leb (2 ^ 55) a.bytes (omega (arith, c.before.if1.false)), ne_eqb (length a.walk.now) 9 (λ e. omega arith))
+    let a = c.args in
+    simp (lt-leb (2 ^ 55) a.bytes (omega (arith, c.if-bytes-ge-TOO_LONG.false)), ne_eqb (length a.walk.now) 9 (λ e. omega arith))
 
-returns-3 : tie.Need-returns-3
+returns-3 : tie.Need-returns
 returns-3 c =
-    let a = c.before.before.before.args in
-    simp (lt-leb (2 ^ 55) a.bytes (omega (arith, c.before.before.if1.false)), eq-eqb (length a.walk.now) 9 (omega (arith, c.before.if2.false))) refl
+    let a = c.args in
+    simp (lt-leb (2 ^ 55) a.bytes (omega (arith, c.if-bytes-ge-TOO_LONG.false)), eq-eqb (length a.walk.now) 9 (omega (arith, c.if-walk-ne-WALK.false))) refl
 
-pub is-outside-spec : {M : Type 1} → statement M
-is-outside-spec = tie.close (tie.spec returns returns-2 (λ c. search rules) returns-3)
+pub is_outside_spec : {M : Type 1} → statement M
+is_outside_spec = tie.close (tie.spec returns returns-2 (λ c. search rules) returns-3)

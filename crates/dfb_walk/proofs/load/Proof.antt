@@ -12,19 +12,19 @@ use Rattle.dfb_walk.specs.Private.{narrowed_at}
 use Rattle.dfb_walk.proofs.load.Statement.{statement}
 use Rattle.dfb_walk.proofs.load.Tie as tie
 
-abbrev invariant-loop : tie.invariant-loop
+abbrev invariant-loop : tie.invariant-loop-n
 invariant-loop walk value₀ n₀ value n = (n ≤ 7) × (length value ≡ 7) × (value ≡ overwrite (tabulate n (narrowed_at walk)) value₀)
 
-abbrev decreases-loop : tie.decreases-loop
+abbrev decreases-loop : tie.decreases-loop-n
 decreases-loop walk value₀ n₀ value n = 7 - n
 
-loop-holds : tie.Need-loop-init invariant-loop decreases-loop
-loop-holds c = (omega arith, refl, table_none (narrowed_at c.before.args.walk.now) _)
+loop-holds : tie.Need-loop-n-init invariant-loop decreases-loop
+loop-holds c = (omega arith, refl, table_none (narrowed_at c.args.walk.now) _)
 
-loop-again : tie.Need-loop-preserved invariant-loop decreases-loop
+loop-again : tie.Need-loop-n-preserved invariant-loop decreases-loop
 loop-again c =
-    let a = c.before.before.before.before.before.args in
-    let l = c.before.before.before.loop in
+    let a = c.args in
+    let l = c.loop-n in
     (omega arith, simp length-set l.invariant.1, table_more (narrowed_at a.walk.now) _ l.n _ 0 l.value l.invariant.2 (omega arith) c.narrow.ensures)
 
 -- all seven
@@ -36,8 +36,8 @@ narrowed-all walk before value n e long p =
 
 returns : tie.Need-returns invariant-loop decreases-loop
 returns c =
-    let a = c.before.before.before.before.before.args in
-    let l = c.before.before.before.loop in
+    let a = c.args in
+    let l = c.loop-n in
     ap (λ (v : List ℕ). record { at = get_or a.walk.now 0 0; records = get_or a.walk.now 1 0; registers = record { value = v } })
     (narrowed-all a.walk.now _ l.value l.n (omega (arith, l.invariant.0)) refl l.invariant.2)
 

@@ -9,28 +9,28 @@ use Rattle.dfb_walk.proofs.Rule.{both-put, none-put, five-of}
 use Rattle.dfb_walk.proofs.put_item.Statement.{statement}
 use Rattle.dfb_walk.proofs.put_item.Tie as tie
 
-returns : tie.Need-returns
+returns : tie.Need-returns-then-answer-eq0
 returns c =
-    let p = c.before.before.before.before.before.before.before in
-    let x = p.before.before.before.before.before.before.before.before.args in
+    let p = c in
+    let x = p.args in
     let at = place_of x.walk.now in
-    let bytes : x.after.at - at ≡ bytes_of x.found = omega (arith, p.before.before.before.before.before.before.before.before.requires.1) in
+    let bytes : x.after.at - at ≡ bytes_of x.found = omega (arith, p.requires.1) in
     both-put (kind_of x.found) at (bytes_of x.found) (a_of x.found) (b_of x.found) x.walk.now x.item.now _ _
-    (p.put-numbers.ensures ∙ five-of x.found at x.item.now p.before.before.before.kind-of.ensures bytes p.before.before.a-of.ensures p.before.b-of.ensures)
-    _ _ c.before.before.put-walk.ensures (omega (arith, c.before.before.before.before.if1.true))
+    (p.put_numbers-answer.ensures ∙ five-of x.found at x.item.now p.kind_of.ensures bytes p.a_of.ensures p.b_of.ensures)
+    _ _ c.put_walk.ensures (omega (arith, c.if-answer-eq0.true))
 
-returns-2 : tie.Need-returns-2
+returns-2 : tie.Need-returns-else-answer-eq0
 returns-2 c =
-    let p = c.before.before.before in
-    let x = p.before.before.before.before.before.before.before.before.args in
+    let p = c in
+    let x = p.args in
     let at = place_of x.walk.now in
-    let bytes : x.after.at - at ≡ bytes_of x.found = omega (arith, p.before.before.before.before.before.before.before.before.requires.1) in
+    let bytes : x.after.at - at ≡ bytes_of x.found = omega (arith, p.requires.1) in
     none-put (kind_of x.found) at (bytes_of x.found) (a_of x.found) (b_of x.found) x.walk.now x.item.now _ _
-    (p.put-numbers.ensures ∙ five-of x.found at x.item.now p.before.before.before.kind-of.ensures bytes p.before.before.a-of.ensures p.before.b-of.ensures)
-    _ (λ z. omega (arith, z, c.if1.false))
+    (p.put_numbers-answer.ensures ∙ five-of x.found at x.item.now p.kind_of.ensures bytes p.a_of.ensures p.b_of.ensures)
+    _ (λ z. omega (arith, z, c.if-answer-eq0.false))
 
-pub put-item-spec : {M : Type 1} → statement M
-put-item-spec =
+pub put_item_spec : {M : Type 1} → statement M
+put_item_spec =
     tie.close
     (tie.spec
     (λ c. search rules)

@@ -9,19 +9,19 @@ use Rattle.dfb_refusals.proofs.Values.{values-short, values-stored}
 use Rattle.dfb_walk.proofs.put_numbers.Statement.{statement}
 use Rattle.dfb_walk.proofs.put_numbers.Tie as tie
 
-returns : tie.Need-returns
+returns : tie.Need-returns-then-list-lt-ITEM
 returns c =
-    let x = c.before.before.before.args in
-    numbered above63 _ c.above-63.ensures
+    let x = c.args in
+    numbered above63 _ c.above_63.ensures
     (values-short (record { number = 0; values = x.kind ∷ x.offset ∷ x.bytes ∷ x.a ∷ x.b ∷ [] }) x.list.now (omega arith))
 
-returns-2 : tie.Need-returns-2
+returns-2 : tie.Need-returns
 returns-2 c =
-    let x = c.before.before.args in
+    let x = c.args in
     values-stored (record { number = 0; values = x.kind ∷ x.offset ∷ x.bytes ∷ x.a ∷ x.b ∷ [] }) x.list.now above63 (omega arith)
 
-pub put-numbers-spec : {M : Type 1} → statement M
-put-numbers-spec =
+pub put_numbers_spec : {M : Type 1} → statement M
+put_numbers_spec =
     tie.close
     (tie.spec
     (λ c κs. search rules)

@@ -8,22 +8,22 @@ use Rattle.dfb_walk.proofs.Numbers.{registers_put, registers-none, registers-mor
 use Rattle.dfb_walk.proofs.put_walk.Statement.{statement}
 use Rattle.dfb_walk.proofs.put_walk.Tie as tie
 
-abbrev invariant-loop : tie.invariant-loop
+abbrev invariant-loop : tie.invariant-loop-n
 invariant-loop walk₀ registers n₀ walk n = (n ≤ 7) × (length walk ≡ 9) × (length walk₀ ≡ 9) × (walk ≡ registers_put registers walk₀ n)
 
-abbrev decreases-loop : tie.decreases-loop
+abbrev decreases-loop : tie.decreases-loop-n
 decreases-loop walk₀ registers n₀ walk n = 7 - n
 
-loop-holds : tie.Need-loop-init invariant-loop decreases-loop
+loop-holds : tie.Need-loop-n-init invariant-loop decreases-loop
 loop-holds c =
-    let a = c.before.args in
-    let nine : length (set (set a.walk.now 0 a.after.at) 1 a.after.records) ≡ 9 = simp length-set c.before.requires in
+    let a = c.args in
+    let nine : length (set (set a.walk.now 0 a.after.at) 1 a.after.records) ≡ 9 = simp length-set c.requires in
     (omega arith, nine, nine, registers-none a.after.registers _ (omega (arith, nine)))
 
-loop-again : tie.Need-loop-preserved invariant-loop decreases-loop
+loop-again : tie.Need-loop-n-preserved invariant-loop decreases-loop
 loop-again c =
-    let a = c.before.before.before.before.args in
-    let l = c.before.before.loop in (
+    let a = c.args in
+    let l = c.loop-n in (
       omega arith,
       length-set l.walk _ _ ∙ l.invariant.1,
       l.invariant.2,
@@ -32,13 +32,13 @@ loop-again c =
 
 returns : tie.Need-returns invariant-loop decreases-loop
 returns c =
-    let a = c.before.before.before.args in
-    let l = c.before.loop in
+    let a = c.args in
+    let l = c.loop-n in
     let long : length a.after.registers.value ≡ 7 = search rules in
-    walk_put a.after a.walk.now l.walk l.n (omega (arith, l.invariant.0)) c.before.before.before.requires long l.invariant.3
+    walk_put a.after a.walk.now l.walk l.n (omega (arith, l.invariant.0)) c.requires long l.invariant.3
 
-pub put-walk-spec : {M : Type 1} → statement M
-put-walk-spec =
+pub put_walk_spec : {M : Type 1} → statement M
+put_walk_spec =
     tie.close
     (tie.spec
     invariant-loop
@@ -51,9 +51,9 @@ put-walk-spec =
     (λ c. search rules)
     (λ c. search rules)
     (λ c. search rules)
-    (λ c. omega (arith, c.before.before.loop.invariant))
+    (λ c. omega (arith, c.loop-n.invariant))
     (λ c. search rules)
     (λ c. search rules)
     loop-again
-    (λ c. c.before.loop.invariant.1 ∙ sym c.before.before.before.requires)
+    (λ c. c.loop-n.invariant.1 ∙ sym c.requires)
     returns)

@@ -4,5 +4,5 @@ use borrow.Author.Rules.{rules}
 use Rattle.space_packets.proofs.count_after.Statement.{statement}
 use Rattle.space_packets.proofs.count_after.Tie as tie
 
-pub count-after-spec : {M : Type 1} → statement M
-count-after-spec = tie.close (tie.spec (λ c. omega arith) (λ c. search rules) (λ c. omega arith))
+pub count_after_spec : {M : Type 1} → statement M
+count_after_spec = tie.close (tie.spec (λ c. omega arith) (λ c. search rules) (λ c. omega arith))

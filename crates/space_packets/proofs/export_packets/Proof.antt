@@ -10,28 +10,28 @@ use Rattle.space_packets.proofs.export_packets.Statement.{statement}
 use Rattle.space_packets.proofs.export_packets.Tie as tie
 
 -- the words of a set
-size : (c : tie.After-known-told) → set_size c.before.before.before.before.before.args.apid ≡ given c.before.words.given.0.0
-size c = sym c.before.before.before.set_words.ensures ∙ ap set_words_outcome c.before.words.given.1
+size : (c : tie.In-Count) → set_size c.args.apid ≡ given c.in-Count.words
+size c = sym c.set_words.ensures ∙ ap set_words_outcome c.in-Count.is
 
-export-sets-requires : tie.Need-export-sets-requires
+export-sets-requires : tie.Need-export_sets-requires
 export-sets-requires c κs = set-sizes-fit _ _ (size c.before)
 
-returns : tie.Need-returns
+returns : tie.Need-returns-in-Count
 unfolding packets_exported
 returns c =
     let at = c.before.before.before.before in
-    let a = at.before.before.before.before.before.args in
-    c.before.before.export-sets.ensures ∙ ap (λ (o : Outcome ℕ). exported_sets o a.apid a.first a.samples.now a.out.now) (sym (size at))
+    let a = at.args in
+    c.export_sets.ensures ∙ ap (λ (o : Outcome ℕ). exported_sets o a.apid a.first a.samples.now a.out.now) (sym (size at))
 
-returns-2 : tie.Need-returns-2
+returns-2 : tie.Need-returns-in-Refused
 unfolding packets_exported
 returns-2 c =
-    let a = c.before.before.before.before.before.args in
+    let a = c.args in
     ap (λ (o : Outcome ℕ). exported_sets o a.apid a.first a.samples.now a.out.now)
-    (sym (ap set_words_outcome c.before.refusal.given.1) ∙ c.before.before.before.set_words.ensures)
+    (sym (ap set_words_outcome c.in-Refused.is) ∙ c.set_words.ensures)
 
-pub export-packets-spec : {M : Type 1} → statement M
-export-packets-spec =
+pub export_packets_spec : {M : Type 1} → statement M
+export_packets_spec =
     tie.close
     (tie.spec
     (λ c κs. search rules)

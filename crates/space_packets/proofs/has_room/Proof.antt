@@ -16,15 +16,15 @@ both-fit samples packets out h =
     (λ t. t ∙ sym (le-leb (6 * packets + 2 * samples) out (omega (arith, leb-true packets ((out - 2 * samples) / 6) t))))
     (λ t. t ∙ sym (lt-leb (6 * packets + 2 * samples) out (omega (arith, leb-false packets ((out - 2 * samples) / 6) t))))
 
-returns : tie.Need-returns
+returns : tie.Need-returns-then-samples-out
 returns c =
-    let a = c.before.args in
+    let a = c.args in
     both-fit a.samples a.packets a.out (omega arith)
 
-returns-2 : tie.Need-returns-2
+returns-2 : tie.Need-returns-else-samples-out
 returns-2 c =
-    let a = c.before.args in
+    let a = c.args in
     lt-leb a.samples (a.out / 2) (omega arith) ∙ sym (lt-leb (6 * a.packets + 2 * a.samples) a.out (omega arith))
 
-pub has-room-spec : {M : Type 1} → statement M
-has-room-spec = tie.close (tie.spec (λ c. search rules) (λ c. search rules) returns returns-2)
+pub has_room_spec : {M : Type 1} → statement M
+has_room_spec = tie.close (tie.spec (λ c. search rules) (λ c. search rules) returns returns-2)

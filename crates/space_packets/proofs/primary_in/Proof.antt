@@ -6,13 +6,13 @@ use Rattle.space_packets.proofs.primary_in.Tie as tie
 
 returns : tie.Need-returns
 returns c =
-    let first = c.before.before.before.before.before.before in
-    let second = c.before.before.before in
-    primary-of first.before.before.before.before.args.packet.now _ _ _ first.pair.ensures second.pair2.ensures c.pair3.ensures
-    first.pair.type-inv second.pair2.type-inv c.pair3.type-inv
+    let first = c in
+    let second = c in
+    primary-of first.args.packet.now _ _ _ first.pair-identification.ensures second.pair-sequence.ensures c.pair.ensures
+    first.pair-identification.type_inv second.pair-sequence.type_inv c.pair.type_inv
 
-pub primary-in-spec : {M : Type 1} → statement M
-primary-in-spec =
+pub primary_in_spec : {M : Type 1} → statement M
+primary_in_spec =
     tie.close
     (tie.spec
     (λ c. search rules)

@@ -17,9 +17,9 @@ use Rattle.space_packets.proofs.Packets.{stated-fits}
 use Rattle.space_packets.proofs.put_packet.Statement.{statement}
 use Rattle.space_packets.proofs.put_packet.Tie as tie
 
-put-primary-requires : tie.Need-put-primary-requires
+put-primary-requires : tie.Need-put_primary-requires
 put-primary-requires c κs =
-    let a = c.before.before.args in
+    let a = c.args in
     (stated-fits a.apid a.count (2 * length a.samples.now) (omega arith) (omega arith) (omega arith), omega arith)
 
 -- the header at the front of a packet, and the samples in the k bytes behind it
@@ -39,18 +39,18 @@ packet-put apid count samples out with part k e q room p =
 
 returns : tie.Need-returns
 returns c =
-    let a = c.before.before.before.before.before.before.before.before.before.args in
+    let a = c.args in
     let n = length a.samples.now in
-    let put = c.before.before.before.before.before.before.put-primary in
-    let with = put.new.1.0 in
-    let kept : length with ≡ length a.out.now = put.auto.1.0 in
+    let put = c.put_primary in
+    let with = put.new.packet in
+    let kept : length with ≡ length a.out.now = put.auto.packet in
     let long : length (take (6 + 2 * n - 6) (drop 6 with)) ≡ 2 * n = omega (arith, length-take (6 + 2 * n - 6) (drop 6 with), length-drop 6 with, kept) in
-    let part : c.before.before.put-samples.new.1.0 ≡ overwrite (sample_bytes a.samples.now) (take (6 + 2 * n - 6) (drop 6 with)) =
-    ap (λ (f : Filled ℕ). f.buffer) c.before.before.put-samples.ensures ∙ put-buffer a.samples.now _ (omega (arith, long)) in
+    let part : c.put_samples.new.out ≡ overwrite (sample_bytes a.samples.now) (take (6 + 2 * n - 6) (drop 6 with)) =
+    ap (λ (f : Filled ℕ). f.buffer) c.put_samples.ensures ∙ put-buffer a.samples.now _ (omega (arith, long)) in
     packet-put a.apid a.count a.samples.now a.out.now with _ (6 + 2 * n - 6) put.ensures (omega arith) (omega arith) part
 
-pub put-packet-spec : {M : Type 1} → statement M
-put-packet-spec =
+pub put_packet_spec : {M : Type 1} → statement M
+put_packet_spec =
     tie.close
     (tie.spec
     (λ c. search rules)

@@ -13,17 +13,17 @@ use Rattle.space_packets.proofs.put_primary.Tie as tie
 
 returns : tie.Need-returns
 returns c =
-    let first = c.before.before.before.before.before.before.before.before.before in
-    let a = first.before.args in
+    let first = c in
+    let a = first.args in
     let p = a.primary in
     sets-eq
     ((p.version * 32 + p.kind * 16 + p.secondary * 8 + p.apid / 256) ∷ p.apid % 256 ∷ (p.flags * 64 + p.count / 256) ∷ p.count % 256 ∷ p.length / 256
     ∷ p.length % 256 ∷ [])
-    a.packet.now 0 first.before.requires.1
-    ∙ ap (λ (l : List ℕ). overwrite l a.packet.now) (sym (primary-bytes p first.before.requires.0))
+    a.packet.now 0 first.requires.1
+    ∙ ap (λ (l : List ℕ). overwrite l a.packet.now) (sym (primary-bytes p first.requires.0))
 
-pub put-primary-spec : {M : Type 1} → statement M
-put-primary-spec =
+pub put_primary_spec : {M : Type 1} → statement M
+put_primary_spec =
     tie.close
     (tie.spec
     (λ c. search rules)
@@ -38,7 +38,7 @@ put-primary-spec =
     (λ c. simp length-set (omega arith))
     (λ c. search rules)
     (λ c. search rules)
-    (λ c. omega (arith, c.before.before.before.before.before.before.before.requires.0.1.1.1.1))
+    (λ c. omega (arith, c.requires.0.1.1.1.1))
     (λ c. simp length-set (omega arith))
     (λ c. search rules)
     (λ c. simp length-set (omega arith))

@@ -8,28 +8,28 @@ use Rattle.space_packets.specs.Calls.{header_taken}
 use Rattle.space_packets.proofs.take_header.Statement.{statement}
 use Rattle.space_packets.proofs.take_header.Tie as tie
 
-returns : tie.Need-returns
+returns : tie.Need-returns-then-not-is_stated
 unfolding header_taken
 returns c =
-    let other : is_stated c.before.before.args.primary ≡ false = sym c.before.is-stated.ensures ∙ not-true _ c.if1.true in
+    let other : is_stated c.args.primary ≡ false = sym c.is_stated.ensures ∙ not-true _ c.if-not-is_stated.true-raw in
     simp other refl
 
-stated : (c : tie.After-is-whole) → is_stated c.before.before.before.args.primary ≡ true
-stated c = sym c.before.before.is-stated.ensures ∙ not-false _ c.before.if1.false
+stated : (c : tie.After-is_whole) → is_stated c.args.primary ≡ true
+stated c = sym c.is_stated.ensures ∙ not-false _ c.if-not-is_stated.false-raw
 
-returns-2 : tie.Need-returns-2
+returns-2 : tie.Need-returns-then-not-is_whole
 unfolding header_taken
 returns-2 c =
-    let a = c.before.before.before.before.args in
-    let other : is_whole a.words a.primary.length a.size ≡ false = sym c.before.is-whole.ensures ∙ not-true _ c.if2.true in
+    let a = c.args in
+    let other : is_whole a.words a.primary.length a.size ≡ false = sym c.is_whole.ensures ∙ not-true _ c.if-not-is_whole.true-raw in
     simp (stated c.before, other) refl
 
-returns-3 : tie.Need-returns-3
+returns-3 : tie.Need-returns
 unfolding header_taken
 returns-3 c =
-    let a = c.before.before.before.before.args in
-    let whole : is_whole a.words a.primary.length a.size ≡ true = sym c.before.is-whole.ensures ∙ not-false _ c.if2.false in
+    let a = c.args in
+    let whole : is_whole a.words a.primary.length a.size ≡ true = sym c.is_whole.ensures ∙ not-false _ c.if-not-is_whole.false-raw in
     simp (stated c.before, whole) refl
 
-pub take-header-spec : {M : Type 1} → statement M
-take-header-spec = tie.close (tie.spec (λ c κs. search rules) returns (λ c κs. search rules) returns-2 returns-3)
+pub take_header_spec : {M : Type 1} → statement M
+take_header_spec = tie.close (tie.spec (λ c κs. search rules) returns (λ c κs. search rules) returns-2 returns-3)
