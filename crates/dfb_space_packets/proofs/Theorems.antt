@@ -19,7 +19,7 @@ use Rattle.space_packets.specs.Calls.{header_taken, header_found, Found, ImportL
 use Rattle.space_packets.proofs.Theorems as packets
 use Rattle.space_packets.proofs.Theorems.{export-exactly, import-exported}
 use Rattle.dfb_refusals.specs.Numbers.{above16, above63}
-use Rattle.dfb_space_packets.specs.Calls.{ExportCall, export_left, export_call, ImportCall, import_refused, import_call}
+use Rattle.dfb_space_packets.specs.Calls.{export_left, export_call, ImportCall, import_refused, import_call}
 use Rattle.dfb_space_packets.specs.Private.{refusal_or2}
 use Rattle.dfb_space_packets.specs.Claims.{ExportPacketsApart, OtherCountRefused, RefusedExportUnchanged, AcceptedExportGiven, ImportPacketApart, RefusedImportUnchanged, ShortHeaderRefused, AcceptedImportGiven, WorkedImports, WorkedHeader, WorkedExports, ImportedExported}
 use Rattle.dfb_space_packets.proofs.Imports.{import-short, import_left, import-long, import-few}

@@ -4,7 +4,7 @@ use Rattle.lists.specs.Tables.{overwrite}
 use Rattle.refusal.specs.Outcome.{Outcome, given, refused}
 use Rattle.fields.specs.Samples.{samples_at}
 use Rattle.space_packets.specs.declared.PacketHeader.{PacketHeader}
-use Rattle.space_packets.specs.Calls.{header_found, sample_count, Sent, ExportLeft, packets_exported}
+use Rattle.space_packets.specs.Calls.{header_found, sample_count, Sent, packets_exported}
 use Rattle.dfb_refusals.specs.Numbers.{above16, above63}
 
 -- ---- dfb_export_packets

@@ -7,7 +7,7 @@ use Rattle.space_packets.specs.Packet.{count_of}
 use Rattle.space_packets.specs.Calls.{Found, packet_imported, Sent, packets_exported}
 use Rattle.space_packets.specs.Claims.{packet_of}
 use Rattle.dfb_refusals.specs.Numbers.{above16, above63}
-use Rattle.dfb_space_packets.specs.Calls.{ExportCall, export_call, ImportCall, import_call}
+use Rattle.dfb_space_packets.specs.Calls.{export_call, import_call}
 
 -- ---- dfb_export_packets; a list in memory has fewer than 2 ^ 63 bytes
 

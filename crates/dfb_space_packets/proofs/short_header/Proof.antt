@@ -13,19 +13,19 @@ use Rattle.dfb_space_packets.proofs.short_header.Tie as tie
 abbrev number : HeaderRead → ℕ
 number r = above16 + refusal_or2 (header_outcome r)
 
-returns : tie.Need-returns
+returns : tie.Need-returns-in-Header
 returns c =
-    c.above-16.ensures ∙ ap number (sym c.before.enum_told.given.1)
-    ∙ ap (λ o. above16 + refusal_or2 o) c.before.before.before.read-header.ensures
+    c.above_16.ensures ∙ ap number (sym c.in-Header.is)
+    ∙ ap (λ o. above16 + refusal_or2 o) c.read_header.ensures
 
-returns-2 : tie.Need-returns-2
+returns-2 : tie.Need-returns-in-Refused
 returns-2 c =
-    let answer : c.above-162.result ≡ above16 + number_of c.before.before.refusal.given.0.0 = c.above-162.ensures in
-    answer ∙ ap number (sym c.before.before.refusal.given.1)
-    ∙ ap (λ o. above16 + refusal_or2 o) c.before.before.before.before.read-header.ensures
+    let answer : c.above_16-in-Refused.result ≡ above16 + number_of c.in-Refused.refusal = c.above_16-in-Refused.ensures in
+    answer ∙ ap number (sym c.in-Refused.is)
+    ∙ ap (λ o. above16 + refusal_or2 o) c.read_header.ensures
 
-pub short-header-spec : {M : Type 1} → statement M
-short-header-spec =
+pub short_header_spec : {M : Type 1} → statement M
+short_header_spec =
     tie.close
     (tie.spec
     (λ c κs. search rules)
