@@ -7,11 +7,13 @@ use codes::BandValue;
 use model::{State, TickAnswer};
 use refusal::Refusal;
 use registers::Answer;
+use std::io;
+use std::io::{BufWriter, Write};
 
-fn line(label: &[u8], n: u64) {
-    io::write_all(1, label);
-    io::print_decimal(1, n);
-    io::write_all(1, b"\n");
+fn line<W: Write>(writer: &mut W, label: &[u8], n: u64) -> io::Result<()> {
+    writer.write_all(label)?;
+    write!(writer, "{n}")?;
+    writer.write_all(b"\n")
 }
 
 fn refused(refusal: Refusal) -> u64 {
@@ -44,26 +46,32 @@ fn value_of(code: u8) -> u64 {
 }
 
 // A write to a register at reset, and the read of it.
-fn show_write(id: u8, information: u16) {
+fn show_write<W: Write>(writer: &mut W, id: u8, information: u16) -> io::Result<()> {
     let mut totals = [0u64; 784];
     let done = board::command(State::reset(), &mut totals, id, information);
     let answer = done.answer;
     let state = done.state;
-    line(b"stored ", answer_number(answer));
-    line(b"read ", answer_number(state.read(id)));
+    line(writer, b"stored ", answer_number(answer))?;
+    line(writer, b"read ", answer_number(state.read(id)))
 }
 
 // One tick with the power of bin 0, a band of one bin: its answer, and the total of band 0 after it.
-fn tick_with(state: State, totals: &mut [u64], power: u32, out: &mut [u8]) -> State {
+fn tick_with<W: Write>(
+    writer: &mut W,
+    state: State,
+    totals: &mut [u64],
+    power: u32,
+    out: &mut [u8],
+) -> io::Result<State> {
     let mut powers = [0u32; 7168];
     powers[0] = power;
     let ticked = board::tick(state, totals, &powers, out);
     let answer = ticked.answer;
-    line(b"tick ", tick_number(answer));
+    line(writer, b"tick ", tick_number(answer))?;
     if 0 < totals.len() {
-        line(b"total ", totals[0]);
+        line(writer, b"total ", totals[0])?;
     }
-    ticked.state
+    Ok(ticked.state)
 }
 
 // A hexadecimal digit, in capitals; 0 for a number over 15.
@@ -75,54 +83,72 @@ fn digit(n: u8) -> u8 {
     }
 }
 
-fn hex(byte: u8) {
+fn hex<W: Write>(writer: &mut W, byte: u8) -> io::Result<()> {
     let digits = [digit(byte / 16), digit(byte % 16)];
-    io::write_all(1, &digits);
+    writer.write_all(&digits)
 }
 
 // The first word of an output, and what the code of band 0 in it stands for.
-fn show_first_word(out: &[u8]) {
+fn show_first_word<W: Write>(writer: &mut W, out: &[u8]) -> io::Result<()> {
     if 3 <= out.len() {
-        io::write_all(1, b"word ");
-        hex(out[0]);
-        hex(out[1]);
-        hex(out[2]);
-        io::write_all(1, b"\n");
-        line(b"value ", value_of(out[2]));
+        writer.write_all(b"word ")?;
+        hex(writer, out[0])?;
+        hex(writer, out[1])?;
+        hex(writer, out[2])?;
+        writer.write_all(b"\n")?;
+        line(writer, b"value ", value_of(out[2]))?;
     }
+    Ok(())
 }
 
 // Processor 1 at 36 bands with the information of 0x30: two ticks, the first word, and a third tick.
-fn show_mean(information: u16, first: u32, second: u32) {
+fn show_mean<W: Write>(
+    writer: &mut W,
+    information: u16,
+    first: u32,
+    second: u32,
+) -> io::Result<()> {
     let mut totals = [0u64; 784];
     let mut out = [0u8; 1176];
     let stored = board::command(State::reset(), &mut totals, 0x30, information);
     let before = stored.state;
-    let between = tick_with(before, &mut totals, first, &mut out);
-    let after = tick_with(between, &mut totals, second, &mut out);
-    show_first_word(&out);
-    tick_with(after, &mut totals, second, &mut out);
+    let between = tick_with(writer, before, &mut totals, first, &mut out)?;
+    let after = tick_with(writer, between, &mut totals, second, &mut out)?;
+    show_first_word(writer, &out)?;
+    tick_with(writer, after, &mut totals, second, &mut out)?;
+    Ok(())
 }
 
 // One tick without powers: its answer, and the number of reports after it.
-fn tick_numbered(state: State, totals: &mut [u64], out: &mut [u8]) -> State {
+fn tick_numbered<W: Write>(
+    writer: &mut W,
+    state: State,
+    totals: &mut [u64],
+    out: &mut [u8],
+) -> io::Result<State> {
     let powers = [0u32; 7168];
     let ticked = board::tick(state, totals, &powers, out);
     let answer = ticked.answer;
     let after = ticked.state;
-    line(b"tick ", tick_number(answer));
-    line(b"number ", after.reports as u64);
-    after
+    line(writer, b"tick ", tick_number(answer))?;
+    line(writer, b"number ", after.reports as u64)?;
+    Ok(after)
 }
 
 // A command: its answer, and the number of reports after it.
-fn command_numbered(state: State, totals: &mut [u64], id: u8, information: u16) -> State {
+fn command_numbered<W: Write>(
+    writer: &mut W,
+    state: State,
+    totals: &mut [u64],
+    id: u8,
+    information: u16,
+) -> io::Result<State> {
     let done = board::command(state, totals, id, information);
     let answer = done.answer;
     let after = done.state;
-    line(b"command ", answer_number(answer));
-    line(b"number ", after.reports as u64);
-    after
+    line(writer, b"command ", answer_number(answer))?;
+    line(writer, b"number ", after.reports as u64)?;
+    Ok(after)
 }
 
 // So many ticks, and nothing printed.
@@ -137,57 +163,60 @@ fn ticks(state: State, totals: &mut [u64], out: &mut [u8], count: u32) -> State 
 }
 
 // N = C = 1: each tick reports. The 65,534th report, the 65,535th and the 65,536th; a refused command; one that stores the same value.
-fn show_numbers() {
+fn show_numbers<W: Write>(writer: &mut W) -> io::Result<()> {
     let mut totals = [0u64; 784];
     let mut out = [0u8; 1176];
-    let idle = tick_numbered(State::reset(), &mut totals, &mut out);
-    let running = command_numbered(idle, &mut totals, 0x30, 0x0020);
-    let first = tick_numbered(running, &mut totals, &mut out);
-    let refused = command_numbered(first, &mut totals, 0x37, 0x0020);
-    let second = tick_numbered(refused, &mut totals, &mut out);
+    let idle = tick_numbered(writer, State::reset(), &mut totals, &mut out)?;
+    let running = command_numbered(writer, idle, &mut totals, 0x30, 0x0020)?;
+    let first = tick_numbered(writer, running, &mut totals, &mut out)?;
+    let refused = command_numbered(writer, first, &mut totals, 0x37, 0x0020)?;
+    let second = tick_numbered(writer, refused, &mut totals, &mut out)?;
     let many = ticks(second, &mut totals, &mut out, 65_531);
-    let before_last = tick_numbered(many, &mut totals, &mut out);
-    let last = tick_numbered(before_last, &mut totals, &mut out);
-    let past = tick_numbered(last, &mut totals, &mut out);
-    let again = command_numbered(past, &mut totals, 0x37, 0x0020);
-    let same = command_numbered(again, &mut totals, 0x30, 0x0020);
-    tick_numbered(same, &mut totals, &mut out);
+    let before_last = tick_numbered(writer, many, &mut totals, &mut out)?;
+    let last = tick_numbered(writer, before_last, &mut totals, &mut out)?;
+    let past = tick_numbered(writer, last, &mut totals, &mut out)?;
+    let again = command_numbered(writer, past, &mut totals, 0x37, 0x0020)?;
+    let same = command_numbered(writer, again, &mut totals, 0x30, 0x0020)?;
+    tick_numbered(writer, same, &mut totals, &mut out)?;
+    Ok(())
 }
 
 // N = 2, C = 4: collected and waiting ticks leave the number. Then the board without its enabled processor, which is not running, and in
 // which no number is sound.
-fn show_periods() {
+fn show_periods<W: Write>(writer: &mut W) -> io::Result<()> {
     let mut totals = [0u64; 784];
     let mut out = [0u8; 1176];
-    let running = command_numbered(State::reset(), &mut totals, 0x30, 0x2120);
-    let collected = tick_numbered(running, &mut totals, &mut out);
-    let reported = tick_numbered(collected, &mut totals, &mut out);
-    let waiting = tick_numbered(reported, &mut totals, &mut out);
-    let waiting_again = tick_numbered(waiting, &mut totals, &mut out);
-    let collected_again = tick_numbered(waiting_again, &mut totals, &mut out);
-    let second = tick_numbered(collected_again, &mut totals, &mut out);
-    let stopped = command_numbered(second, &mut totals, 0x30, 0x2100);
-    let idle = tick_numbered(stopped, &mut totals, &mut out);
+    let running = command_numbered(writer, State::reset(), &mut totals, 0x30, 0x2120)?;
+    let collected = tick_numbered(writer, running, &mut totals, &mut out)?;
+    let reported = tick_numbered(writer, collected, &mut totals, &mut out)?;
+    let waiting = tick_numbered(writer, reported, &mut totals, &mut out)?;
+    let waiting_again = tick_numbered(writer, waiting, &mut totals, &mut out)?;
+    let collected_again = tick_numbered(writer, waiting_again, &mut totals, &mut out)?;
+    let second = tick_numbered(writer, collected_again, &mut totals, &mut out)?;
+    let stopped = command_numbered(writer, second, &mut totals, 0x30, 0x2100)?;
+    let idle = tick_numbered(writer, stopped, &mut totals, &mut out)?;
     let registers = idle.registers;
     let unsound = State {
         registers,
         phase: 0,
         reports: 1,
     };
-    tick_numbered(unsound, &mut totals, &mut out);
-    command_numbered(unsound, &mut totals, 0x30, 0x2120);
-    line(b"read ", answer_number(unsound.read(0x30)));
+    tick_numbered(writer, unsound, &mut totals, &mut out)?;
+    command_numbered(writer, unsound, &mut totals, 0x30, 0x2120)?;
+    line(writer, b"read ", answer_number(unsound.read(0x30)))
 }
 
-fn main() {
-    show_write(0x30, 0x0017);
+fn main(rt: HostRuntime) -> io::Result<()> {
+    let mut writer = BufWriter::new(rt.alloc(), io::writer(&rt))?;
+    show_write(&mut writer, 0x30, 0x0017)?;
     // N = 2, C = 4: a report at the second tick.
-    show_mean(0x2120, 8, 11);
-    show_mean(0x2120, 0, 1);
+    show_mean(&mut writer, 0x2120, 8, 11)?;
+    show_mean(&mut writer, 0x2120, 0, 1)?;
     // The largest powers: a report meets no larger mean.
-    show_mean(0x2120, 4_294_967_295, 4_294_967_295);
+    show_mean(&mut writer, 0x2120, 4_294_967_295, 4_294_967_295)?;
     // N = C = 4: the total of both ticks is still held.
-    show_mean(0x2220, 8, 11);
-    show_numbers();
-    show_periods();
+    show_mean(&mut writer, 0x2220, 8, 11)?;
+    show_numbers(&mut writer)?;
+    show_periods(&mut writer)?;
+    writer.flush()
 }

@@ -2,19 +2,19 @@
 // fails, it prints nothing on standard output and says so on standard error; a failed write is named there too.
 #![tactic(auto)]
 
-use input::Input;
-use libc::{STDERR_FILENO, STDOUT_FILENO};
+use input::{Input, fail, read_input};
 use refusal::Written;
+use std::io::{Read, Write};
 
 // The longest list that is checked.
 const MOST: usize = 1048576;
 
 // Prints the verdict on a list, made in out.
-fn print(list: &[u8], out: &mut [u8]) {
+fn print<W: Write>(rt: &(impl Eprint + Alloc), writer: &mut W, list: &[u8], out: &mut [u8]) {
     match listing::verdict_line(checker::check(list), out) {
         Written::Count(k) => {
-            if !io::write_all(STDOUT_FILENO, &out[..k]) {
-                os::fail(b"checklist: standard output");
+            if let Err(e) = writer.write_all(&out[..k]) {
+                fail(rt, "checklist: standard output", e);
             }
         }
         // Never from main: its out has room for every line, and its offsets have at most seven digits.
@@ -22,24 +22,33 @@ fn print(list: &[u8], out: &mut [u8]) {
     }
 }
 
-// Reads the list into list, and prints the verdict on it.
-fn check(list: &mut [u8], out: &mut [u8]) {
-    let Input::Bytes(n) = input::read_input(list) else {
-        os::fail(b"checklist: standard input");
-        return;
-    };
-    if n > MOST {
-        io::write_all(
-            STDERR_FILENO,
-            b"checklist: the list is over 1048576 bytes\n",
-        );
-        return;
-    }
-    print(&list[..n], out);
+// Says that the list is too long. Where that fails, there is nowhere left to say so.
+fn turn_away(rt: &impl Eprint) {
+    let _ = eprintln!(rt; "checklist: the list is over 1048576 bytes");
 }
 
-fn main() {
+// Reads the list into list, and prints the verdict on it.
+fn check<R: Read, W: Write>(
+    rt: &(impl Eprint + Alloc),
+    reader: &mut R,
+    writer: &mut W,
+    list: &mut [u8],
+    out: &mut [u8],
+) {
+    match read_input(reader, list) {
+        Input::Bytes(n) => {
+            if n > MOST {
+                turn_away(rt);
+            } else {
+                print(rt, writer, &list[..n], out);
+            }
+        }
+        Input::Failed(e) => fail(rt, "checklist: standard input", e),
+    }
+}
+
+fn main(rt: HostRuntime) {
     let mut list = [0u8; 1048577];
     let mut out = [0u8; 64];
-    check(&mut list, &mut out);
+    check(&rt, &mut rt.stdin(), &mut rt.stdout(), &mut list, &mut out);
 }

@@ -4,25 +4,28 @@
 // output afterwards, with what lies past the length lent.
 #![tactic(auto)]
 
-ghost use Rattle.std.specs.Prelude.{◌≡◌, ◌+◌, ◌*◌, ◌≤◌, length};
+ghost use Rattle.std.specs.Prelude.{◌≡◌, ◌+◌, ◌*◌, ◌≤◌, length, IfOk};
 
-use libc::{STDIN_FILENO, STDOUT_FILENO};
+use input::{Input, read_input};
 use refusal::Written;
+use std::io;
+use std::io::{BufWriter, Read, Write};
 
 // Prints a line that the expected output does not have, unless ok.
-fn expect(ok: bool) {
+fn expect<W: Write>(writer: &mut W, ok: bool) -> io::Result<()> {
     if !ok {
-        io::write_all(STDOUT_FILENO, b"bad input\n");
+        writer.write_all(b"bad input\n")?;
     }
+    Ok(())
 }
 
 // A length that the case has; of more than most, most.
-fn at_most(n: u8, most: usize) -> usize
-    ensures { result ≤ most }
+fn at_most<W: Write>(writer: &mut W, n: u8, most: usize) -> io::Result<usize>
+    ensures { IfOk result (λ n. n ≤ most) }
 {
     let length = n as usize;
-    expect(length <= most);
-    if length <= most { length } else { most }
+    expect(writer, length <= most)?;
+    Ok(if length <= most { length } else { most })
 }
 
 // 32 bits of four bytes, high byte first.
@@ -50,54 +53,69 @@ fn get_totals(bytes: &[u8], totals: &mut [u64])
     }
 }
 
-fn show_totals(totals: &[u64; 66]) {
+fn show_totals<W: Write>(writer: &mut W, totals: &[u64; 66]) -> io::Result<()> {
     for i in 0..66usize {
-        io::write_all(STDOUT_FILENO, b" ");
-        io::print_decimal(STDOUT_FILENO, totals[i]);
+        write!(writer, " {}", totals[i])?;
     }
-    io::write_all(STDOUT_FILENO, b"\n");
+    writer.write_all(b"\n")
 }
 
-fn show_written(written: Written) {
+fn show_written<W: Write>(writer: &mut W, written: Written) -> io::Result<()> {
     match written {
         Written::Count(n) => {
-            io::print_decimal(STDOUT_FILENO, n as u64);
+            write!(writer, "{}", n as u64)?;
         }
         Written::Refused(refusal) => {
-            io::write_all(STDOUT_FILENO, b"refused ");
-            io::print_decimal(STDOUT_FILENO, refusal::number(refusal) as u64);
+            writer.write_all(b"refused ")?;
+            write!(writer, "{}", refusal::number(refusal) as u64)?;
         }
     }
+    Ok(())
 }
 
 // Converts the totals of a case, over an output that held 7 everywhere.
-fn show_case(case: &[u8])
+fn show_case<W: Write>(writer: &mut W, case: &[u8]) -> io::Result<()>
     requires { 907 ≡ length case.now }
 {
     let mut fine = [0u64; 113];
     let mut out = [7u64; 66];
-    let n = at_most(case[1], 113);
-    let room = at_most(case[2], 66);
+    let n = at_most(writer, case[1], 113)?;
+    let room = at_most(writer, case[2], 66)?;
     get_totals(&case[3..], &mut fine);
-    show_written(coarse::coarse_totals(case[0], &fine[0..n], &mut out[0..room]));
-    show_totals(&out);
+    show_written(
+        writer,
+        coarse::coarse_totals(case[0], &fine[0..n], &mut out[0..room]),
+    )?;
+    show_totals(writer, &out)
 }
 
 // Shows each case of the first n bytes of input.
-fn show_cases(input: &[u8], n: usize)
+fn show_cases<W: Write>(writer: &mut W, input: &[u8], n: usize) -> io::Result<()>
     requires { (n ≤ length input.now) × (n + 907 ≤ 4294967296) }
 {
     let mut at: usize = 0;
     while at + 907 <= n {
         let next = at + 907;
-        show_case(&input[at..next]);
+        show_case(writer, &input[at..next])?;
         at = next;
     }
-    expect(at == n);
+    expect(writer, at == n)
 }
 
-fn main() {
-    let mut input = io::large_buffer();
-    let n = io::read_full(STDIN_FILENO, &mut input);
-    show_cases(&input, n);
+// Shows the cases of standard input, which is read into input.
+fn show_input<R: Read, W: Write>(reader: &mut R, writer: &mut W, input: &mut [u8]) -> io::Result<()>
+    requires { length input.old + 907 ≤ 4294967296 }
+{
+    let Input::Bytes(n) = read_input(reader, input) else {
+        return expect(writer, false);
+    };
+    show_cases(writer, input, n)
+}
+
+fn main(rt: HostRuntime) -> io::Result<()> {
+    let mut writer = BufWriter::new(rt.alloc(), io::writer(&rt))?;
+    let mut reader = rt.stdin();
+    let mut input = [0u8; 65536];
+    show_input(&mut reader, &mut writer, &mut input)?;
+    writer.flush()
 }

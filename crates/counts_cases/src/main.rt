@@ -7,9 +7,11 @@ ghost use Rattle.std.specs.Prelude.{◌+◌, ◌<◌, ◌≤◌, length};
 
 use counting::Counted;
 use counts::{Counts, Ending, Tally};
-use libc::{STDIN_FILENO, STDOUT_FILENO};
+use input::{Input, read_input};
 use refusal::Written;
 use registers::Registers;
+use std::io;
+use std::io::{BufWriter, Read, Write};
 
 // The bytes of an operation's header, and the most samples of one.
 const HEADER: usize = 8;
@@ -33,80 +35,86 @@ struct Kept {
 }
 
 // Prints a line that the expected output does not have, unless ok.
-fn expect(ok: bool) {
+fn expect<W: Write>(writer: &mut W, ok: bool) -> io::Result<()> {
     if !ok {
-        io::write_all(STDOUT_FILENO, b"bad input\n");
+        writer.write_all(b"bad input\n")?;
     }
+    Ok(())
 }
 
-fn show_number(n: u64) {
-    io::print_hex(STDOUT_FILENO, n, 4);
+fn show_number<W: Write>(writer: &mut W, n: u64) -> io::Result<()> {
+    write!(writer, "{n:04x}")
 }
 
-fn show_counts(counts: Counts) {
+fn show_counts<W: Write>(writer: &mut W, counts: Counts) -> io::Result<()> {
     for n in 0..Counts::LENGTH {
-        show_number(counts.value[n]);
+        show_number(writer, counts.value[n])?;
     }
+    Ok(())
 }
 
-fn show_registers(registers: Registers) {
+fn show_registers<W: Write>(writer: &mut W, registers: Registers) -> io::Result<()> {
     for n in 0..Registers::COUNT {
-        show_number(registers.value[n] as u64);
+        show_number(writer, registers.value[n] as u64)?;
     }
+    Ok(())
 }
 
-fn show_answer(answer: Written) {
+fn show_answer<W: Write>(writer: &mut W, answer: Written) -> io::Result<()> {
     match answer {
         Written::Count(used) => {
-            io::write_all(STDOUT_FILENO, b"U");
-            show_number(used as u64);
+            writer.write_all(b"U")?;
+            show_number(writer, used as u64)?;
         }
         Written::Refused(refusal) => {
-            io::write_all(STDOUT_FILENO, b"R");
-            show_number(refusal::number(refusal) as u64);
+            writer.write_all(b"R")?;
+            show_number(writer, refusal::number(refusal) as u64)?;
         }
     }
+    Ok(())
 }
 
 // Prints what the walk finds in a log.
-fn show_walked(log: &[u8]) {
+fn show_walked<W: Write>(writer: &mut W, log: &[u8]) -> io::Result<()> {
     let count = counts::count_sets(log);
     let ending = count.ending;
     let tally = count.tally;
     match ending {
         Ending::End(_) => {
-            io::write_all(STDOUT_FILENO, b"E");
-            show_counts(tally.counts);
-            show_registers(tally.registers);
+            writer.write_all(b"E")?;
+            show_counts(writer, tally.counts)?;
+            show_registers(writer, tally.registers)?;
         }
         Ending::Refused(refusal, at) => {
-            io::write_all(STDOUT_FILENO, b"B");
-            show_number(refusal::number(refusal) as u64);
-            show_number(at as u64);
+            writer.write_all(b"B")?;
+            show_number(writer, refusal::number(refusal) as u64)?;
+            show_number(writer, at as u64)?;
         }
     }
+    Ok(())
 }
 
 // Prints what the walk finds in the bytes used.
-fn show_used(log: &[u8], used: usize) {
+fn show_used<W: Write>(writer: &mut W, log: &[u8], used: usize) -> io::Result<()> {
     if used <= log.len() {
-        show_walked(&log[0..used]);
+        show_walked(writer, &log[0..used])?;
     } else {
-        io::write_all(STDOUT_FILENO, b"-");
+        writer.write_all(b"-")?;
     }
+    Ok(())
 }
 
-fn show_byte(byte: u8) {
-    io::print_hex(STDOUT_FILENO, byte as u64, 2);
+fn show_byte<W: Write>(writer: &mut W, byte: u8) -> io::Result<()> {
+    write!(writer, "{:02x}", byte as u64)
 }
 
 // Prints all of a log.
-fn show_log(log: &[u8]) {
-    io::write_all(STDOUT_FILENO, b"L ");
+fn show_log<W: Write>(writer: &mut W, log: &[u8]) -> io::Result<()> {
+    writer.write_all(b"L ")?;
     for i in 0..log.len() {
-        show_byte(log[i]);
+        show_byte(writer, log[i])?;
     }
-    io::write_all(STDOUT_FILENO, b"\n");
+    writer.write_all(b"\n")
 }
 
 // The bytes used after an answer.
@@ -118,19 +126,19 @@ fn used_after(answer: Written, used: usize) -> usize {
 }
 
 // Prints what a call left.
-fn show_call(done: Counted, log: &[u8], used: usize) -> Kept {
+fn show_call<W: Write>(writer: &mut W, done: Counted, log: &[u8], used: usize) -> io::Result<Kept> {
     let answer = done.answer;
     let tally = done.tally;
     let next = used_after(answer, used);
-    show_answer(answer);
-    io::write_all(STDOUT_FILENO, b" ");
-    show_counts(tally.counts);
-    io::write_all(STDOUT_FILENO, b" ");
-    show_registers(tally.registers);
-    io::write_all(STDOUT_FILENO, b" ");
-    show_used(log, next);
-    io::write_all(STDOUT_FILENO, b"\n");
-    Kept { used: next, tally }
+    show_answer(writer, answer)?;
+    writer.write_all(b" ")?;
+    show_counts(writer, tally.counts)?;
+    writer.write_all(b" ")?;
+    show_registers(writer, tally.registers)?;
+    writer.write_all(b" ")?;
+    show_used(writer, log, next)?;
+    writer.write_all(b"\n")?;
+    Ok(Kept { used: next, tally })
 }
 
 // Reads samples of two bytes each.
@@ -228,16 +236,22 @@ fn is_call(op: u8) -> bool {
 }
 
 // One operation on a log, but begin.
-fn operate(log: &mut [u8], kept: Kept, operation: Operation, bytes: &[u8]) -> Kept {
+fn operate<W: Write>(
+    writer: &mut W,
+    log: &mut [u8],
+    kept: Kept,
+    operation: Operation,
+    bytes: &[u8],
+) -> io::Result<Kept> {
     if operation.op == 7 {
-        show_log(log);
-        return kept;
+        show_log(writer, log)?;
+        return Ok(kept);
     }
     if is_call(operation.op) {
         let done = call(log, kept, operation, bytes);
-        return show_call(done, log, kept.used);
+        return show_call(writer, done, log, kept.used);
     }
-    changed(kept, operation)
+    Ok(changed(kept, operation))
 }
 
 // The bytes of an operation's data.
@@ -282,22 +296,23 @@ fn header(input: &[u8], at: usize) -> Operation
 }
 
 // One operation on the front of log that the last begin gave it.
-fn operate_front(
+fn operate_front<W: Write>(
+    writer: &mut W,
     log: &mut [u8],
     capacity: usize,
     kept: Kept,
     operation: Operation,
     bytes: &[u8],
-) -> Kept {
+) -> io::Result<Kept> {
     if capacity <= log.len() {
-        operate(&mut log[0..capacity], kept, operation, bytes)
+        operate(writer, &mut log[0..capacity], kept, operation, bytes)
     } else {
-        kept
+        Ok(kept)
     }
 }
 
 // The operations of input.
-fn run(input: &[u8], log: &mut [u8]) {
+fn run<W: Write>(writer: &mut W, input: &[u8], log: &mut [u8]) -> io::Result<()> {
     let mut at: usize = 0;
     let mut capacity: usize = 0;
     let mut kept = begun();
@@ -306,26 +321,40 @@ fn run(input: &[u8], log: &mut [u8]) {
         let from = at + HEADER;
         let next = from + data_length(operation.op, operation.b);
         if input.len() < next {
-            expect(false);
-            return;
+            return expect(writer, false);
         }
         if operation.op == 0 {
             capacity = operation.b as usize;
             kept = begun();
             fill(log);
         } else {
-            kept = operate_front(log, capacity, kept, operation, &input[from..next]);
+            kept = operate_front(writer, log, capacity, kept, operation, &input[from..next])?;
         }
         at = next;
     }
-    expect(at == input.len());
+    expect(writer, at == input.len())
 }
 
-fn main() {
-    let mut input = io::large_buffer();
-    let mut log = io::buffer();
-    let n = io::read_full(STDIN_FILENO, &mut input);
-    run(&input[..n], &mut log);
-    // the input ended there: no read failed, and input was large enough
-    expect(libc::read(STDIN_FILENO, &mut log) == 0);
+// Shows the cases of standard input, which is read into input.
+fn show_input<R: Read, W: Write>(
+    reader: &mut R,
+    writer: &mut W,
+    input: &mut [u8],
+    log: &mut [u8],
+) -> io::Result<()> {
+    let Input::Bytes(n) = read_input(reader, input) else {
+        return expect(writer, false);
+    };
+    run(writer, &input[..n], log)?;
+    // the input ended there: input was large enough
+    expect(writer, matches!(reader.read(log), Ok(0)))
+}
+
+fn main(rt: HostRuntime) -> io::Result<()> {
+    let mut writer = BufWriter::new(rt.alloc(), io::writer(&rt))?;
+    let mut reader = rt.stdin();
+    let mut input = [0u8; 65536];
+    let mut log = [0u8; 4096];
+    show_input(&mut reader, &mut writer, &mut input, &mut log)?;
+    writer.flush()
 }

@@ -3,31 +3,45 @@
 
 ghost use Rattle.input.specs.Input.{Within};
 
-use libc::STDIN_FILENO;
+use std::io;
+use std::io::Read;
 
 // The bytes read up to the input's end or the buffer's, or a read that failed.
 #[derive(Clone, Copy)]
 pub enum Input {
     Bytes(usize),
-    Failed,
+    Failed(io::Error),
 }
 
-// Reads standard input until it ends or buf is full.
-pub fn read_input(buf: &mut [u8]) -> Input
+// Reads until the input ends or buf is full.
+pub fn read_input<R: Read>(reader: &mut R, buf: &mut [u8]) -> Input
     ensures { Within result buf.new }
 {
     let mut done: usize = 0;
     while done < buf.len() {
-        let rest = &mut buf[done..];
-        let got = libc::read(STDIN_FILENO, rest);
-        if got < 0 {
-            return Input::Failed;
+        match reader.read(&mut buf[done..]) {
+            Ok(0) => return Input::Bytes(done),
+            Ok(n) => done += n,
+            Err(e) => return Input::Failed(e),
         }
-        let n = io::count(got, rest);
-        if n == 0 {
-            return Input::Bytes(done);
-        }
-        done += n;
     }
     Input::Bytes(done)
+}
+
+// What failed, without the number that the library puts behind the system's words.
+fn words(text: &str) -> &str {
+    match text.rsplit_once(" (os error ") {
+        Some((front, _)) => front,
+        None => text,
+    }
+}
+
+fn try_fail<R: Eprint + Alloc>(rt: &R, what: &str, error: io::Error) -> io::Result<()> {
+    let text = format!(in rt.alloc(); "{error}")?;
+    eprintln!(rt; "{what}: {}", words(text.as_str()))
+}
+
+// Says on standard error what failed, and why in the system's words. Where that fails too, there is nowhere left to say so.
+pub fn fail<R: Eprint + Alloc>(rt: &R, what: &str, error: io::Error) {
+    let _ = try_fail(rt, what, error);
 }

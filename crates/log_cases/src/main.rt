@@ -6,29 +6,32 @@
 // and the reader's place after it.
 #![tactic(auto)]
 
-ghost use Rattle.std.specs.Prelude.{◌≡◌, ◌+◌, ◌*◌, ◌≤◌, length};
+ghost use Rattle.std.specs.Prelude.{◌≡◌, ◌+◌, ◌*◌, ◌≤◌, length, IfOk};
 
 use board_log::{Command, Read, Record, Word};
-use libc::{STDIN_FILENO, STDOUT_FILENO};
+use input::{Input, read_input};
 use refusal::{Refusal, Written};
+use std::io;
+use std::io::{BufWriter, Write};
 
 // Prints a line that the expected output does not have, unless ok.
-fn expect(ok: bool) {
+fn expect<W: Write>(writer: &mut W, ok: bool) -> io::Result<()> {
     if !ok {
-        io::write_all(STDOUT_FILENO, b"bad input\n");
+        writer.write_all(b"bad input\n")?;
     }
+    Ok(())
 }
 
-fn show_byte(byte: u8) {
-    io::print_hex(STDOUT_FILENO, byte as u64, 2);
+fn show_byte<W: Write>(writer: &mut W, byte: u8) -> io::Result<()> {
+    write!(writer, "{:02x}", byte as u64)
 }
 
 // Prints bytes, two hexadecimal digits each, and a line end.
-fn show_bytes(bytes: &[u8]) {
+fn show_bytes<W: Write>(writer: &mut W, bytes: &[u8]) -> io::Result<()> {
     for i in 0..bytes.len() {
-        show_byte(bytes[i]);
+        show_byte(writer, bytes[i])?;
     }
-    io::write_all(STDOUT_FILENO, b"\n");
+    writer.write_all(b"\n")
 }
 
 // A sample without its sign.
@@ -40,85 +43,87 @@ fn magnitude(sample: i16) -> u16 {
     }
 }
 
-fn show_sample(sample: i16) {
-    io::write_all(STDOUT_FILENO, b" ");
+fn show_sample<W: Write>(writer: &mut W, sample: i16) -> io::Result<()> {
+    writer.write_all(b" ")?;
     if sample < 0 {
-        io::write_all(STDOUT_FILENO, b"-");
+        writer.write_all(b"-")?;
     }
-    io::print_decimal(STDOUT_FILENO, magnitude(sample) as u64);
+    write!(writer, "{}", magnitude(sample) as u64)
 }
 
 // Prints samples in decimal, and a line end.
-fn show_samples(samples: &[i16]) {
+fn show_samples<W: Write>(writer: &mut W, samples: &[i16]) -> io::Result<()> {
     for i in 0..samples.len() {
-        show_sample(samples[i]);
+        show_sample(writer, samples[i])?;
     }
-    io::write_all(STDOUT_FILENO, b"\n");
+    writer.write_all(b"\n")
 }
 
-fn show_refusal(refusal: Refusal) {
-    io::write_all(STDOUT_FILENO, b"refused ");
-    io::print_decimal(STDOUT_FILENO, refusal::number(refusal) as u64);
+fn show_refusal<W: Write>(writer: &mut W, refusal: Refusal) -> io::Result<()> {
+    writer.write_all(b"refused ")?;
+    write!(writer, "{}", refusal::number(refusal) as u64)
 }
 
-fn show_written(written: Written) {
+fn show_written<W: Write>(writer: &mut W, written: Written) -> io::Result<()> {
     match written {
         Written::Count(n) => {
-            io::print_decimal(STDOUT_FILENO, n as u64);
+            write!(writer, "{}", n as u64)?;
         }
-        Written::Refused(refusal) => show_refusal(refusal),
+        Written::Refused(refusal) => show_refusal(writer, refusal)?,
     }
+    Ok(())
 }
 
 // Prints a byte and 16 bits.
-fn show_pair(first: u8, second: u16) {
-    show_byte(first);
-    io::write_all(STDOUT_FILENO, b" ");
-    io::print_hex(STDOUT_FILENO, second as u64, 4);
+fn show_pair<W: Write>(writer: &mut W, first: u8, second: u16) -> io::Result<()> {
+    show_byte(writer, first)?;
+    write!(writer, " {:04x}", second as u64)
 }
 
-fn show_record(rec: Record) {
+fn show_record<W: Write>(writer: &mut W, rec: Record) -> io::Result<()> {
     match rec {
         Record::Command(c) => {
-            io::write_all(STDOUT_FILENO, b"command ");
-            show_pair(c.id, c.information);
+            writer.write_all(b"command ")?;
+            show_pair(writer, c.id, c.information)?;
         }
         Record::Word(w) => {
-            io::write_all(STDOUT_FILENO, b"word ");
-            show_pair(w.apid, w.bits);
+            writer.write_all(b"word ")?;
+            show_pair(writer, w.apid, w.bits)?;
         }
         Record::SecondMark(seconds) => {
-            io::write_all(STDOUT_FILENO, b"mark ");
-            io::print_decimal(STDOUT_FILENO, seconds as u64);
+            writer.write_all(b"mark ")?;
+            write!(writer, "{}", seconds as u64)?;
         }
         Record::Tick => {
-            io::write_all(STDOUT_FILENO, b"tick");
+            writer.write_all(b"tick")?;
         }
     }
+    Ok(())
 }
 
 // Prints an answer, a record with the place after it.
-fn show_answer(read: Read) {
+fn show_answer<W: Write>(writer: &mut W, read: Read) -> io::Result<()> {
     match read {
         Read::Record(rec, next) => {
-            show_record(rec);
-            io::write_all(STDOUT_FILENO, b" to ");
-            io::print_decimal(STDOUT_FILENO, next as u64);
+            show_record(writer, rec)?;
+            writer.write_all(b" to ")?;
+            write!(writer, "{}", next as u64)?;
         }
         Read::End => {
-            io::write_all(STDOUT_FILENO, b"end");
+            writer.write_all(b"end")?;
         }
-        Read::Refused(refusal) => show_refusal(refusal),
+        Read::Refused(refusal) => show_refusal(writer, refusal)?,
     }
+    Ok(())
 }
 
 // A length that the case has; of more than most, most.
-fn at_most(n: u8, most: usize) -> usize
-    ensures { result ≤ most }
+fn at_most<W: Write>(writer: &mut W, n: u8, most: usize) -> io::Result<usize>
+    ensures { IfOk result (λ n. n ≤ most) }
 {
     let length = n as usize;
-    expect(length <= most);
-    if length <= most { length } else { most }
+    expect(writer, length <= most)?;
+    Ok(if length <= most { length } else { most })
 }
 
 // The sample of two bytes of a case.
@@ -162,129 +167,160 @@ fn pair(a: u8, b: u8) -> u16 {
 }
 
 // The record of a kind, with a body of the first of four bytes.
-fn record_of(kind: u8, a: u8, b: u8, c: u8, d: u8) -> Record {
+fn record_of<W: Write>(writer: &mut W, kind: u8, a: u8, b: u8, c: u8, d: u8) -> io::Result<Record> {
     if kind == 1 {
-        return Record::Command(Command {
+        return Ok(Record::Command(Command {
             id: a,
             information: pair(b, c),
-        });
+        }));
     }
     if kind == 2 {
-        return Record::Word(Word {
+        return Ok(Record::Word(Word {
             apid: a,
             bits: pair(b, c),
-        });
+        }));
     }
     if kind == 3 {
-        return Record::SecondMark(quad(a, b, c, d));
+        return Ok(Record::SecondMark(quad(a, b, c, d)));
     }
-    expect(kind == 4);
-    Record::Tick
+    expect(writer, kind == 4)?;
+    Ok(Record::Tick)
 }
 
 // Packs the samples into the case's buffer.
-fn show_pack(apid: u8, samples: &[i16], case: &mut [u8])
+fn show_pack<W: Write>(writer: &mut W, apid: u8, samples: &[i16], case: &mut [u8]) -> io::Result<()>
     requires { 80 ≡ length case.old }
 {
-    let end = 48 + at_most(case[3], 32);
-    io::write_all(STDOUT_FILENO, b"pack ");
-    show_written(sets::pack(apid, samples, &mut case[48..end]));
-    io::write_all(STDOUT_FILENO, b" ");
-    show_bytes(&case[48..]);
+    let end = 48 + at_most(writer, case[3], 32)?;
+    writer.write_all(b"pack ")?;
+    show_written(writer, sets::pack(apid, samples, &mut case[48..end]))?;
+    writer.write_all(b" ")?;
+    show_bytes(writer, &case[48..])
 }
 
 // Unpacks the bytes of the case into the first of 16 samples.
-fn show_unpack(apid: u8, case: &[u8], samples: &mut [i16])
+fn show_unpack<W: Write>(
+    writer: &mut W,
+    apid: u8,
+    case: &[u8],
+    samples: &mut [i16],
+) -> io::Result<()>
     requires { (80 ≡ length case.now) × (16 ≡ length samples.old) }
 {
-    let end = 16 + at_most(case[2], 32);
-    let room = at_most(case[3], 16);
-    io::write_all(STDOUT_FILENO, b"unpack ");
-    show_written(sets::unpack(apid, &case[16..end], &mut samples[0..room]));
-    show_samples(samples);
+    let end = 16 + at_most(writer, case[2], 32)?;
+    let room = at_most(writer, case[3], 16)?;
+    writer.write_all(b"unpack ")?;
+    show_written(
+        writer,
+        sets::unpack(apid, &case[16..end], &mut samples[0..room]),
+    )?;
+    show_samples(writer, samples)
 }
 
 // Appends the case's record to its buffer.
-fn show_append(kind: u8, case: &mut [u8])
+fn show_append<W: Write>(writer: &mut W, kind: u8, case: &mut [u8]) -> io::Result<()>
     requires { 80 ≡ length case.old }
 {
-    let end = 48 + at_most(case[3], 32);
+    let end = 48 + at_most(writer, case[3], 32)?;
     let used = number(case) as usize;
-    let rec = record_of(kind, case[4], case[5], case[6], case[7]);
-    io::write_all(STDOUT_FILENO, b"append ");
-    show_written(board_log::append(&mut case[48..end], used, rec));
-    io::write_all(STDOUT_FILENO, b" ");
-    show_bytes(&case[48..]);
+    let rec = record_of(writer, kind, case[4], case[5], case[6], case[7])?;
+    writer.write_all(b"append ")?;
+    show_written(writer, board_log::append(&mut case[48..end], used, rec))?;
+    writer.write_all(b" ")?;
+    show_bytes(writer, &case[48..])
 }
 
 // Has a reader at a place hand out, and shows its answer and its place; answers the place.
-fn show_step(log: &[u8], at: usize) -> usize {
+fn show_step<W: Write>(writer: &mut W, log: &[u8], at: usize) -> io::Result<usize> {
     let handed = reader::hand_out(log, at);
     let read = handed.read;
     let next = handed.at;
-    io::write_all(STDOUT_FILENO, b" ");
-    show_answer(read);
-    io::write_all(STDOUT_FILENO, b" at ");
-    io::print_decimal(STDOUT_FILENO, next as u64);
-    io::write_all(STDOUT_FILENO, b";");
-    next
+    writer.write_all(b" ")?;
+    show_answer(writer, read)?;
+    writer.write_all(b" at ")?;
+    write!(writer, "{}", next as u64)?;
+    writer.write_all(b";")?;
+    Ok(next)
 }
 
 // Reads a log from a place on, so many times.
-fn show_log(log: &[u8], from: usize, times: u8) {
+fn show_log<W: Write>(writer: &mut W, log: &[u8], from: usize, times: u8) -> io::Result<()> {
     let mut at = from;
-    io::write_all(STDOUT_FILENO, b"read");
+    writer.write_all(b"read")?;
     for _ in 0..times {
-        at = show_step(log, at);
+        at = show_step(writer, log, at)?;
     }
-    io::write_all(STDOUT_FILENO, b"\n");
+    writer.write_all(b"\n")
 }
 
 // Reads the case's log from its place on.
-fn show_reading(case: &[u8])
+fn show_reading<W: Write>(writer: &mut W, case: &[u8]) -> io::Result<()>
     requires { 80 ≡ length case.now }
 {
-    let end = 16 + at_most(case[2], 64);
-    show_log(&case[16..end], number(case) as usize, case[3]);
+    let end = 16 + at_most(writer, case[2], 64)?;
+    show_log(writer, &case[16..end], number(case) as usize, case[3])
 }
 
 // Makes the call of a case and shows what it leaves.
-fn show_case(case: &mut [u8], samples: &mut [i16])
+fn show_case<W: Write>(writer: &mut W, case: &mut [u8], samples: &mut [i16]) -> io::Result<()>
     requires { (80 ≡ length case.old) × (16 ≡ length samples.old) }
 {
     let call = case[0];
     let key = case[1];
     if call == 1 {
         get_samples(&case[16..48], samples);
-        let n = at_most(case[2], 16);
-        show_pack(key, &samples[0..n], case);
+        let n = at_most(writer, case[2], 16)?;
+        show_pack(writer, key, &samples[0..n], case)?;
     } else if call == 2 {
         get_samples(&case[48..], samples);
-        show_unpack(key, case, samples);
+        show_unpack(writer, key, case, samples)?;
     } else if call == 3 {
-        show_append(key, case);
+        show_append(writer, key, case)?;
     } else {
-        expect(call == 4);
-        show_reading(case);
+        expect(writer, call == 4)?;
+        show_reading(writer, case)?;
     }
+    Ok(())
 }
 
 // Shows each case of the first n bytes of input.
-fn show_cases(input: &mut [u8], n: usize, samples: &mut [i16])
+fn show_cases<W: Write>(
+    writer: &mut W,
+    input: &mut [u8],
+    n: usize,
+    samples: &mut [i16],
+) -> io::Result<()>
     requires { (n ≤ length input.old) × (n + 80 ≤ 4294967296) × (16 ≡ length samples.old) }
 {
     let mut at: usize = 0;
     while at + 80 <= n {
         let next = at + 80;
-        show_case(&mut input[at..next], samples);
+        show_case(writer, &mut input[at..next], samples)?;
         at = next;
     }
-    expect(at == n);
+    expect(writer, at == n)
 }
 
-fn main() {
-    let mut input = io::large_buffer();
+// Shows the cases of standard input, which is read into input.
+fn show_input<R: io::Read, W: Write>(
+    reader: &mut R,
+    writer: &mut W,
+    input: &mut [u8],
+    samples: &mut [i16],
+) -> io::Result<()>
+    requires { (length input.old + 80 ≤ 4294967296) × (16 ≡ length samples.old) }
+{
+    let Input::Bytes(n) = read_input(reader, input) else {
+        return expect(writer, false);
+    };
+    show_cases(writer, input, n, samples)
+}
+
+fn main(rt: HostRuntime) -> io::Result<()> {
+    let mut writer = BufWriter::new(rt.alloc(), io::writer(&rt))?;
+    let mut reader = rt.stdin();
+    let mut input = [0u8; 65536];
     let mut samples = [0i16; 16];
-    let n = io::read_full(STDIN_FILENO, &mut input);
-    show_cases(&mut input, n, &mut samples);
+    show_input(&mut reader, &mut writer, &mut input, &mut samples)?;
+    writer.flush()
 }

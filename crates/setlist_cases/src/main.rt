@@ -2,39 +2,42 @@
 // the input and the expected output, the latter from a model of its own.
 #![tactic(auto)]
 
-ghost use Rattle.std.specs.Prelude.{◌≡◌, ◌+◌, ◌<◌, ◌≤◌, length};
+ghost use Rattle.std.specs.Prelude.{◌≡◌, ◌+◌, ◌<◌, ◌≤◌, length, IfOk};
 
-use libc::{STDIN_FILENO, STDOUT_FILENO};
+use input::{Input, read_input};
 use refusal::Written;
+use std::io;
+use std::io::{BufWriter, Read, Write};
 
 // Prints a line that the expected output does not have, unless ok.
-fn expect(ok: bool) {
+fn expect<W: Write>(writer: &mut W, ok: bool) -> io::Result<()> {
     if !ok {
-        io::write_all(STDOUT_FILENO, b"bad input\n");
+        writer.write_all(b"bad input\n")?;
     }
+    Ok(())
 }
 
 // Prints a text: one over 65,536 bytes by its length and its last 16 bytes.
-fn print(text: &[u8]) {
+fn print<W: Write>(writer: &mut W, text: &[u8]) -> io::Result<()> {
     let n = text.len();
     if n <= 65536 {
-        io::write_all(STDOUT_FILENO, text);
-        return;
+        return writer.write_all(text);
     }
-    io::print_decimal(STDOUT_FILENO, n as u64);
-    io::write_all(STDOUT_FILENO, b"\n");
+    write!(writer, "{}", n as u64)?;
+    writer.write_all(b"\n")?;
     let from = n - 16;
-    io::write_all(STDOUT_FILENO, &text[from..]);
+    writer.write_all(&text[from..])
 }
 
 // Prints the listing of a log, made in out.
-fn show(log: &[u8], out: &mut [u8]) {
+fn show<W: Write>(writer: &mut W, log: &[u8], out: &mut [u8]) -> io::Result<()> {
     match listing::listing(log, out) {
-        Written::Count(n) => print(&out[..n]),
+        Written::Count(n) => print(writer, &out[..n])?,
         Written::Refused(_) => {
-            io::write_all(STDOUT_FILENO, b"refused\n");
+            writer.write_all(b"refused\n")?;
         }
     }
+    Ok(())
 }
 
 fn case_length(high: u8, low: u8) -> usize
@@ -44,51 +47,75 @@ fn case_length(high: u8, low: u8) -> usize
 }
 
 // Shows the case at index at, where it lies within input; answers the index after it.
-fn show_case(input: &[u8], at: usize, out: &mut [u8]) -> usize
+fn show_case<W: Write>(writer: &mut W, input: &[u8], at: usize, out: &mut [u8]) -> io::Result<usize>
     requires { at + 2 ≤ length input.now }
-    ensures { (at < result) × (result ≤ length input.now + 65535) }
+    ensures { IfOk result (λ next. (at < next) × (next ≤ length input.now + 65535)) }
 {
     let from = at + 2;
     let next = from + case_length(input[at], input[at + 1]);
     if next <= input.len() {
-        show(&input[from..next], out);
+        show(writer, &input[from..next], out)?;
     }
-    next
+    Ok(next)
 }
 
 // Shows each case of input: two bytes of length, high byte first, and the log.
-fn show_cases(input: &[u8], out: &mut [u8]) {
+fn show_cases<W: Write>(writer: &mut W, input: &[u8], out: &mut [u8]) -> io::Result<()> {
     let mut at: usize = 0;
     while at + 2 <= input.len() {
-        at = show_case(input, at, out);
+        at = show_case(writer, input, at, out)?;
     }
-    expect(at == input.len());
+    expect(writer, at == input.len())
 }
 
 // Shows the cases of standard input, which is read into input.
-fn show_input(input: &mut [u8], out: &mut [u8]) {
-    let n = io::read_full(STDIN_FILENO, input);
-    show_cases(&input[..n], out);
-    // the input ended there: no read failed, and input was large enough
-    expect(libc::read(STDIN_FILENO, out) == 0);
+fn show_input<R: Read, W: Write>(
+    reader: &mut R,
+    writer: &mut W,
+    input: &mut [u8],
+    out: &mut [u8],
+) -> io::Result<()> {
+    let Input::Bytes(n) = read_input(reader, input) else {
+        return expect(writer, false);
+    };
+    show_cases(writer, &input[..n], out)?;
+    // the input ended there: input was large enough
+    expect(writer, matches!(reader.read(out), Ok(0)))
 }
 
 // Shows the cases of standard input, and then logs of ticks: in small, which has 70 bytes, and the largest log in out.
-fn show_all(input: &mut [u8], ticks: &[u8], small: &mut [u8], out: &mut [u8])
+fn show_all<R: Read, W: Write>(
+    reader: &mut R,
+    writer: &mut W,
+    input: &mut [u8],
+    ticks: &[u8],
+    small: &mut [u8],
+    out: &mut [u8],
+) -> io::Result<()>
     requires { 65537 ≡ length ticks.now }
 {
-    show_input(input, out);
+    show_input(reader, writer, input, out)?;
     // 2: the output has 6 bytes for each of the log and 64 more, or it is refused
-    show_cases(b"\x00\x01\x04\x00\x02\x04\x04", small);
+    show_cases(writer, b"\x00\x01\x04\x00\x02\x04\x04", small)?;
     // 11: a log of 65,537 bytes
-    show(ticks, small);
-    show(&ticks[1..], out);
+    show(writer, ticks, small)?;
+    show(writer, &ticks[1..], out)
 }
 
-fn main() {
-    let mut input = io::large_buffer();
+fn main(rt: HostRuntime) -> io::Result<()> {
+    let mut writer = BufWriter::new(rt.alloc(), io::writer(&rt))?;
+    let mut reader = rt.stdin();
+    let mut input = [0u8; 65536];
     let ticks = [4u8; 65537];
     let mut small = [0u8; 70];
     let mut out = [0u8; 393280];
-    show_all(&mut input, &ticks, &mut small, &mut out);
+    show_all(
+        &mut reader,
+        &mut writer,
+        &mut input,
+        &ticks,
+        &mut small,
+        &mut out,
+    )?;
+    writer.flush()
 }

@@ -3,11 +3,13 @@
 // afterwards, with what lies past the length lent.
 #![tactic(auto)]
 
-ghost use Rattle.std.specs.Prelude.{◌+◌, ◌≤◌, length};
+ghost use Rattle.std.specs.Prelude.{◌+◌, ◌≤◌, length, IfOk};
 
-use libc::{STDIN_FILENO, STDOUT_FILENO};
+use input::{Input, read_input};
 use refusal::{Refusal, Written};
 use snapshot::{Header, HeaderRead, PacketRead};
+use std::io;
+use std::io::{BufWriter, Read, Write};
 
 // The bytes of a case before its body, and of the header in the body of a write.
 const CASE: usize = 7;
@@ -24,24 +26,25 @@ const OLD_SAMPLE: i16 = 7777;
 const OLD_BYTE: u8 = 0x77;
 
 // Prints a line that the expected output does not have, unless ok.
-fn expect(ok: bool) {
+fn expect<W: Write>(writer: &mut W, ok: bool) -> io::Result<()> {
     if !ok {
-        io::write_all(STDOUT_FILENO, b"bad input\n");
+        writer.write_all(b"bad input\n")?;
     }
+    Ok(())
 }
 
-fn show_byte(byte: u8) {
-    io::print_hex(STDOUT_FILENO, byte as u64, 2);
+fn show_byte<W: Write>(writer: &mut W, byte: u8) -> io::Result<()> {
+    write!(writer, "{:02x}", byte as u64)
 }
 
 // Prints the first n bytes, two hexadecimal digits each, and a line end.
-fn show_bytes(bytes: &[u8; BYTES], n: usize)
+fn show_bytes<W: Write>(writer: &mut W, bytes: &[u8; BYTES], n: usize) -> io::Result<()>
     requires { n ≤ 2100 }
 {
     for i in 0..n {
-        show_byte(bytes[i]);
+        show_byte(writer, bytes[i])?;
     }
-    io::write_all(STDOUT_FILENO, b"\n");
+    writer.write_all(b"\n")
 }
 
 // A sample without its sign.
@@ -53,89 +56,88 @@ fn magnitude(sample: i16) -> u16 {
     }
 }
 
-fn show_sample(sample: i16) {
-    io::write_all(STDOUT_FILENO, b" ");
+fn show_sample<W: Write>(writer: &mut W, sample: i16) -> io::Result<()> {
+    writer.write_all(b" ")?;
     if sample < 0 {
-        io::write_all(STDOUT_FILENO, b"-");
+        writer.write_all(b"-")?;
     }
-    io::print_decimal(STDOUT_FILENO, magnitude(sample) as u64);
+    write!(writer, "{}", magnitude(sample) as u64)
 }
 
 // Prints the first n samples in decimal, and a line end.
-fn show_samples(samples: &[i16; SAMPLES], n: usize)
+fn show_samples<W: Write>(writer: &mut W, samples: &[i16; SAMPLES], n: usize) -> io::Result<()>
     requires { n ≤ 1040 }
 {
     for i in 0..n {
-        show_sample(samples[i]);
+        show_sample(writer, samples[i])?;
     }
-    io::write_all(STDOUT_FILENO, b"\n");
+    writer.write_all(b"\n")
 }
 
-fn show_refusal(refusal: Refusal) {
-    io::write_all(STDOUT_FILENO, b" refused ");
-    io::print_decimal(STDOUT_FILENO, refusal::number(refusal) as u64);
+fn show_refusal<W: Write>(writer: &mut W, refusal: Refusal) -> io::Result<()> {
+    writer.write_all(b" refused ")?;
+    write!(writer, "{}", refusal::number(refusal) as u64)
 }
 
 // Prints a number in so many hexadecimal digits.
-fn show_number(n: u64, digits: usize) {
-    io::write_all(STDOUT_FILENO, b" ");
-    io::print_hex(STDOUT_FILENO, n, digits);
+fn show_number<W: Write>(writer: &mut W, n: u64, digits: usize) -> io::Result<()> {
+    write!(writer, " {n:0digits$x}")
 }
 
 // Prints a header in the order of the packet.
-fn show_header(header: Header) {
-    show_number(header.coarse as u64, 4);
-    show_number(header.fine as u64, 4);
-    show_number(header.sequence as u64, 4);
-    show_number(header.switches8 as u64, 8);
-    show_number(header.switches12 as u64, 2);
-    show_number(header.mask as u64, 2);
-    show_number(header.total as u64, 4);
-    show_number(header.artefacts as u64, 2);
-    show_number(header.snapshot as u64, 2);
-    show_number(header.number as u64, 4);
+fn show_header<W: Write>(writer: &mut W, header: Header) -> io::Result<()> {
+    show_number(writer, header.coarse as u64, 4)?;
+    show_number(writer, header.fine as u64, 4)?;
+    show_number(writer, header.sequence as u64, 4)?;
+    show_number(writer, header.switches8 as u64, 8)?;
+    show_number(writer, header.switches12 as u64, 2)?;
+    show_number(writer, header.mask as u64, 2)?;
+    show_number(writer, header.total as u64, 4)?;
+    show_number(writer, header.artefacts as u64, 2)?;
+    show_number(writer, header.snapshot as u64, 2)?;
+    show_number(writer, header.number as u64, 4)
 }
 
-fn show_header_read(read: HeaderRead) {
-    io::write_all(STDOUT_FILENO, b"header");
+fn show_header_read<W: Write>(writer: &mut W, read: HeaderRead) -> io::Result<()> {
+    writer.write_all(b"header")?;
     match read {
-        HeaderRead::Header(header) => show_header(header),
-        HeaderRead::Refused(refusal) => show_refusal(refusal),
+        HeaderRead::Header(header) => show_header(writer, header)?,
+        HeaderRead::Refused(refusal) => show_refusal(writer, refusal)?,
     }
+    Ok(())
 }
 
-fn show_packet_read(read: PacketRead) {
-    io::write_all(STDOUT_FILENO, b"; read");
+fn show_packet_read<W: Write>(writer: &mut W, read: PacketRead) -> io::Result<()> {
+    writer.write_all(b"; read")?;
     match read {
         PacketRead::Packet(header, n) => {
-            show_header(header);
-            io::write_all(STDOUT_FILENO, b" count ");
-            io::print_decimal(STDOUT_FILENO, n as u64);
+            show_header(writer, header)?;
+            writer.write_all(b" count ")?;
+            write!(writer, "{}", n as u64)?;
         }
-        PacketRead::Refused(refusal) => show_refusal(refusal),
+        PacketRead::Refused(refusal) => show_refusal(writer, refusal)?,
     }
-    io::write_all(STDOUT_FILENO, b";");
+    writer.write_all(b";")
 }
 
-fn show_written(written: Written) {
-    io::write_all(STDOUT_FILENO, b"write");
+fn show_written<W: Write>(writer: &mut W, written: Written) -> io::Result<()> {
+    writer.write_all(b"write")?;
     match written {
         Written::Count(n) => {
-            io::write_all(STDOUT_FILENO, b" ");
-            io::print_decimal(STDOUT_FILENO, n as u64);
+            write!(writer, " {}", n as u64)?;
         }
-        Written::Refused(refusal) => show_refusal(refusal),
+        Written::Refused(refusal) => show_refusal(writer, refusal)?,
     }
-    io::write_all(STDOUT_FILENO, b"; ");
+    writer.write_all(b"; ")
 }
 
 // A length that the case has; of more than most, most.
-fn at_most(n: u16, most: usize) -> usize
-    ensures { result ≤ most }
+fn at_most<W: Write>(writer: &mut W, n: u16, most: usize) -> io::Result<usize>
+    ensures { IfOk result (λ n. n ≤ most) }
 {
     let length = n as usize;
-    expect(length <= most);
-    if length <= most { length } else { most }
+    expect(writer, length <= most)?;
+    Ok(if length <= most { length } else { most })
 }
 
 // 16 bits of two bytes, high byte first.
@@ -170,13 +172,13 @@ fn get_samples(bytes: &[u8], samples: &mut [i16], n: usize)
 }
 
 // The number of samples in the body of a write.
-fn sample_count(bytes: usize) -> usize
+fn sample_count<W: Write>(writer: &mut W, bytes: usize) -> io::Result<usize>
     requires { 18 ≤ bytes }
-    ensures { (result + result + 18 ≤ bytes) × (result ≤ 1040) }
+    ensures { IfOk result (λ n. (n + n + 18 ≤ bytes) × (n ≤ 1040)) }
 {
     let n = (bytes - HEADER) / 2;
-    expect(n <= SAMPLES);
-    if n <= SAMPLES { n } else { SAMPLES }
+    expect(writer, n <= SAMPLES)?;
+    Ok(if n <= SAMPLES { n } else { SAMPLES })
 }
 
 // The header in the body of a write.
@@ -198,70 +200,101 @@ fn header_of(body: &[u8]) -> Header
 }
 
 // Reads a packet with so many samples lent, and shows so many.
-fn show_read(packet: &[u8], lent: usize, shown: usize)
+fn show_read<W: Write>(writer: &mut W, packet: &[u8], lent: usize, shown: usize) -> io::Result<()>
     requires { (lent ≤ 1040) × (shown ≤ 1040) }
 {
     let mut samples = [OLD_SAMPLE; SAMPLES];
-    show_header_read(snapshot::read_header(packet));
-    show_packet_read(snapshot::read_packet(packet, &mut samples[0..lent]));
-    show_samples(&samples, shown);
+    show_header_read(writer, snapshot::read_header(packet))?;
+    show_packet_read(writer, snapshot::read_packet(packet, &mut samples[0..lent]))?;
+    show_samples(writer, &samples, shown)
 }
 
 // Writes a packet with so many bytes lent, and shows so many.
-fn show_write(header: Header, samples: &[i16], lent: usize, shown: usize)
+fn show_write<W: Write>(
+    writer: &mut W,
+    header: Header,
+    samples: &[i16],
+    lent: usize,
+    shown: usize,
+) -> io::Result<()>
     requires { (lent ≤ 2100) × (shown ≤ 2100) }
 {
     let mut packet = [OLD_BYTE; BYTES];
-    show_written(snapshot::write_packet(header, samples, &mut packet[0..lent]));
-    show_bytes(&packet, shown);
+    show_written(
+        writer,
+        snapshot::write_packet(header, samples, &mut packet[0..lent]),
+    )?;
+    show_bytes(writer, &packet, shown)
 }
 
 // The same, of the body of a case.
-fn show_write_of(body: &[u8], lent: usize, shown: usize)
+fn show_write_of<W: Write>(writer: &mut W, body: &[u8], lent: usize, shown: usize) -> io::Result<()>
     requires { (18 ≤ length body.now) × (lent ≤ 2100) × (shown ≤ 2100) }
 {
     let mut samples = [0i16; SAMPLES];
-    let n = sample_count(body.len());
+    let n = sample_count(writer, body.len())?;
     get_samples(&body[HEADER..], &mut samples, n);
-    show_write(header_of(body), &samples[0..n], lent, shown);
+    show_write(writer, header_of(body), &samples[0..n], lent, shown)
 }
 
 // Makes the calls of a case and shows what they leave.
-fn show_case(call: u8, lent: u16, shown: u16, body: &[u8]) {
+fn show_case<W: Write>(
+    writer: &mut W,
+    call: u8,
+    lent: u16,
+    shown: u16,
+    body: &[u8],
+) -> io::Result<()> {
     if call == 1 {
-        show_read(body, at_most(lent, SAMPLES), at_most(shown, SAMPLES));
-        return;
+        let lent = at_most(writer, lent, SAMPLES)?;
+        let shown = at_most(writer, shown, SAMPLES)?;
+        return show_read(writer, body, lent, shown);
     }
     if call != 2 || body.len() < HEADER {
-        expect(false);
-        return;
+        return expect(writer, false);
     }
-    show_write_of(body, at_most(lent, BYTES), at_most(shown, BYTES));
+    let lent = at_most(writer, lent, BYTES)?;
+    let shown = at_most(writer, shown, BYTES)?;
+    show_write_of(writer, body, lent, shown)
 }
 
 // Shows each case of input.
-fn show_cases(input: &[u8]) {
+fn show_cases<W: Write>(writer: &mut W, input: &[u8]) -> io::Result<()> {
     let mut at: usize = 0;
     while at + CASE <= input.len() {
         let from = at + CASE;
         let next = from + pair(input[at + 1], input[at + 2]) as usize;
         if input.len() < next {
-            expect(false);
-            return;
+            return expect(writer, false);
         }
         let lent = pair(input[at + 3], input[at + 4]);
         let shown = pair(input[at + 5], input[at + 6]);
-        show_case(input[at], lent, shown, &input[from..next]);
+        show_case(writer, input[at], lent, shown, &input[from..next])?;
         at = next;
     }
-    expect(at == input.len());
+    expect(writer, at == input.len())
 }
 
-fn main() {
-    let mut input = io::large_buffer();
-    let mut more = io::buffer();
-    let n = io::read_full(STDIN_FILENO, &mut input);
-    show_cases(&input[..n]);
-    // the input ended there: no read failed, and input was large enough
-    expect(libc::read(STDIN_FILENO, &mut more) == 0);
+// Shows the cases of standard input, which is read into input.
+fn show_input<R: Read, W: Write>(
+    reader: &mut R,
+    writer: &mut W,
+    input: &mut [u8],
+    more: &mut [u8],
+) -> io::Result<()> {
+    let Input::Bytes(n) = read_input(reader, input) else {
+        return expect(writer, false);
+    };
+    show_cases(writer, &input[..n])?;
+    // the input ended there: input was large enough
+    expect(writer, matches!(reader.read(more), Ok(0)))
+}
+
+fn main(rt: HostRuntime) -> io::Result<()> {
+    let mut writer = BufWriter::new(rt.alloc(), io::writer(&rt))?;
+    let mut reader = rt.stdin();
+    let mut input = [0u8; 65536];
+    let mut more = [0u8; 4096];
+    show_input(&mut reader, &mut writer, &mut input, &mut more)?;
+    writer.flush()
 }

@@ -5,9 +5,11 @@
 
 ghost use Rattle.std.specs.Prelude.{◌+◌, ◌≤◌, length};
 
-use libc::{STDIN_FILENO, STDOUT_FILENO};
+use input::{Input, read_input};
 use refusal::Refusal;
 use space_packets::{Exported, HeaderRead, Imported, PacketHeader};
+use std::io;
+use std::io::{BufWriter, Read, Write};
 
 // The bytes of a case before its body.
 const CASE: usize = 18;
@@ -22,10 +24,11 @@ const OLD_SAMPLE: i16 = 7777;
 const OLD_BYTE: u8 = 0x77;
 
 // Prints a line that the expected output does not have, unless ok.
-fn expect(ok: bool) {
+fn expect<W: Write>(writer: &mut W, ok: bool) -> io::Result<()> {
     if !ok {
-        io::write_all(STDOUT_FILENO, b"bad input\n");
+        writer.write_all(b"bad input\n")?;
     }
+    Ok(())
 }
 
 // 16 bits of two bytes, high byte first.
@@ -146,137 +149,172 @@ fn make_bytes(start: u16, step: u16, bytes: &mut [u8]) {
     }
 }
 
-fn show_refusal(refusal: Refusal) {
-    io::write_all(STDOUT_FILENO, b" refused ");
-    io::print_decimal(STDOUT_FILENO, refusal::number(refusal) as u64);
+fn show_refusal<W: Write>(writer: &mut W, refusal: Refusal) -> io::Result<()> {
+    writer.write_all(b" refused ")?;
+    write!(writer, "{}", refusal::number(refusal) as u64)
 }
 
-fn show_number(n: u64) {
-    io::write_all(STDOUT_FILENO, b" ");
-    io::print_decimal(STDOUT_FILENO, n);
+fn show_number<W: Write>(writer: &mut W, n: u64) -> io::Result<()> {
+    write!(writer, " {n}")
 }
 
-fn show_header(header: PacketHeader) {
-    show_number(header.apid as u64);
-    show_number(header.count as u64);
+fn show_header<W: Write>(writer: &mut W, header: PacketHeader) -> io::Result<()> {
+    show_number(writer, header.apid as u64)?;
+    show_number(writer, header.count as u64)
 }
 
-fn show_header_read(read: HeaderRead) {
-    io::write_all(STDOUT_FILENO, b"header");
+fn show_header_read<W: Write>(writer: &mut W, read: HeaderRead) -> io::Result<()> {
+    writer.write_all(b"header")?;
     match read {
-        HeaderRead::Header(header) => show_header(header),
-        HeaderRead::Refused(refusal) => show_refusal(refusal),
+        HeaderRead::Header(header) => show_header(writer, header)?,
+        HeaderRead::Refused(refusal) => show_refusal(writer, refusal)?,
     }
+    Ok(())
 }
 
-fn show_imported(imported: Imported) {
-    io::write_all(STDOUT_FILENO, b"; import");
+fn show_imported<W: Write>(writer: &mut W, imported: Imported) -> io::Result<()> {
+    writer.write_all(b"; import")?;
     match imported {
         Imported::Packet(header, n) => {
-            show_header(header);
-            show_number(n as u64);
+            show_header(writer, header)?;
+            show_number(writer, n as u64)?;
         }
-        Imported::Refused(refusal) => show_refusal(refusal),
+        Imported::Refused(refusal) => show_refusal(writer, refusal)?,
     }
-    io::write_all(STDOUT_FILENO, b";");
+    writer.write_all(b";")
 }
 
-fn show_exported(exported: Exported) {
-    io::write_all(STDOUT_FILENO, b"export");
+fn show_exported<W: Write>(writer: &mut W, exported: Exported) -> io::Result<()> {
+    writer.write_all(b"export")?;
     match exported {
         Exported::Packets(bytes, next) => {
-            show_number(bytes as u64);
-            show_number(next as u64);
+            show_number(writer, bytes as u64)?;
+            show_number(writer, next as u64)?;
         }
-        Exported::Refused(refusal) => show_refusal(refusal),
+        Exported::Refused(refusal) => show_refusal(writer, refusal)?,
     }
-    io::write_all(STDOUT_FILENO, b"; ");
+    writer.write_all(b"; ")
 }
 
-fn show_sample(sample: i16) {
-    io::write_all(STDOUT_FILENO, b" ");
+fn show_sample<W: Write>(writer: &mut W, sample: i16) -> io::Result<()> {
+    writer.write_all(b" ")?;
     if sample < 0 {
-        io::write_all(STDOUT_FILENO, b"-");
+        writer.write_all(b"-")?;
     }
-    io::print_decimal(STDOUT_FILENO, magnitude(sample) as u64);
+    write!(writer, "{}", magnitude(sample) as u64)
 }
 
-fn show_byte(byte: u8) {
-    io::print_hex(STDOUT_FILENO, byte as u64, 2);
+fn show_byte<W: Write>(writer: &mut W, byte: u8) -> io::Result<()> {
+    write!(writer, "{:02x}", byte as u64)
 }
 
 // Prints the samples from a place on and below another, in decimal.
-fn show_samples(samples: &[i16], from: usize, to: usize) {
+fn show_samples<W: Write>(
+    writer: &mut W,
+    samples: &[i16],
+    from: usize,
+    to: usize,
+) -> io::Result<()> {
     let mut i = from;
-    expect(to <= samples.len());
+    expect(writer, to <= samples.len())?;
     while i < to && i < samples.len() {
-        show_sample(samples[i]);
+        show_sample(writer, samples[i])?;
         i += 1;
     }
+    Ok(())
 }
 
 // Prints the bytes from a place on and below another, two hexadecimal digits each.
-fn show_bytes(bytes: &[u8], from: usize, to: usize) {
+fn show_bytes<W: Write>(writer: &mut W, bytes: &[u8], from: usize, to: usize) -> io::Result<()> {
     let mut i = from;
-    expect(to <= bytes.len());
+    expect(writer, to <= bytes.len())?;
     while i < to && i < bytes.len() {
-        show_byte(bytes[i]);
+        show_byte(writer, bytes[i])?;
         i += 1;
     }
+    Ok(())
 }
 
-fn show_sum(sum: u64) {
-    io::write_all(STDOUT_FILENO, b"; all ");
-    io::print_hex(STDOUT_FILENO, sum, 8);
-    io::write_all(STDOUT_FILENO, b"\n");
+fn show_sum<W: Write>(writer: &mut W, sum: u64) -> io::Result<()> {
+    writer.write_all(b"; all ")?;
+    write!(writer, "{sum:08x}")?;
+    writer.write_all(b"\n")
 }
 
 // Exports samples to so many bytes of out.
-fn export(apid: u8, first: u16, samples: &[i16], out: &mut [u8], lent: usize) {
+fn export<W: Write>(
+    writer: &mut W,
+    apid: u8,
+    first: u16,
+    samples: &[i16],
+    out: &mut [u8],
+    lent: usize,
+) -> io::Result<()> {
     if out.len() < lent {
-        expect(false);
-        return;
+        return expect(writer, false);
     }
-    show_exported(space_packets::export_packets(apid, first, samples, &mut out[0..lent]));
+    show_exported(
+        writer,
+        space_packets::export_packets(apid, first, samples, &mut out[0..lent]),
+    )
 }
 
 // Exports samples as the case says, and shows what is left in out.
-fn show_export(case: &[u8], samples: &[i16], out: &mut [u8])
+fn show_export<W: Write>(
+    writer: &mut W,
+    case: &[u8],
+    samples: &[i16],
+    out: &mut [u8],
+) -> io::Result<()>
     requires { 18 ≤ length case.now }
 {
     put_old_bytes(out);
     let lent = number_at(case, 12) as usize;
-    export(case[1], number_at(case, 2), samples, out, lent);
+    export(writer, case[1], number_at(case, 2), samples, out, lent)?;
     show_bytes(
+        writer,
         out,
         number_at(case, 14) as usize,
         number_at(case, 16) as usize,
-    );
-    show_sum(sum_of_bytes(out));
+    )?;
+    show_sum(writer, sum_of_bytes(out))
 }
 
 // Imports a packet to so many samples.
-fn import(packet: &[u8], samples: &mut [i16], lent: usize) {
+fn import<W: Write>(
+    writer: &mut W,
+    packet: &[u8],
+    samples: &mut [i16],
+    lent: usize,
+) -> io::Result<()> {
     if samples.len() < lent {
-        expect(false);
-        return;
+        return expect(writer, false);
     }
-    show_header_read(space_packets::read_header(packet));
-    show_imported(space_packets::import_packet(packet, &mut samples[0..lent]));
+    show_header_read(writer, space_packets::read_header(packet))?;
+    show_imported(
+        writer,
+        space_packets::import_packet(packet, &mut samples[0..lent]),
+    )
 }
 
 // Imports a packet as the case says, and shows what is left in samples.
-fn show_import(case: &[u8], packet: &[u8], samples: &mut [i16])
+fn show_import<W: Write>(
+    writer: &mut W,
+    case: &[u8],
+    packet: &[u8],
+    samples: &mut [i16],
+) -> io::Result<()>
     requires { 18 ≤ length case.now }
 {
     put_old_samples(samples);
-    import(packet, samples, number_at(case, 12) as usize);
+    import(writer, packet, samples, number_at(case, 12) as usize)?;
     show_samples(
+        writer,
         samples,
         number_at(case, 14) as usize,
         number_at(case, 16) as usize,
-    );
-    show_sum(sum_of_samples(samples));
+    )?;
+    show_sum(writer, sum_of_samples(samples))
 }
 
 // The samples in so many bytes.
@@ -287,14 +325,19 @@ fn half(bytes: usize) -> usize
 }
 
 // A case of export: the samples of its body, then those that it makes.
-fn run_export(case: &[u8], body: &[u8], samples: &mut [i16], out: &mut [u8])
+fn run_export<W: Write>(
+    writer: &mut W,
+    case: &[u8],
+    body: &[u8],
+    samples: &mut [i16],
+    out: &mut [u8],
+) -> io::Result<()>
     requires { 18 ≤ length case.now }
 {
     let n = half(body.len());
     let more = number_at(case, 6) as usize;
     if samples.len() < n + more {
-        expect(false);
-        return;
+        return expect(writer, false);
     }
     take_samples(body, &mut samples[0..n]);
     make_samples(
@@ -302,18 +345,23 @@ fn run_export(case: &[u8], body: &[u8], samples: &mut [i16], out: &mut [u8])
         number_at(case, 10),
         &mut samples[n..n + more],
     );
-    show_export(case, &samples[0..n + more], out);
+    show_export(writer, case, &samples[0..n + more], out)
 }
 
 // A case of import: the bytes of its body, then those that it makes.
-fn run_import(case: &[u8], body: &[u8], samples: &mut [i16], packet: &mut [u8])
+fn run_import<W: Write>(
+    writer: &mut W,
+    case: &[u8],
+    body: &[u8],
+    samples: &mut [i16],
+    packet: &mut [u8],
+) -> io::Result<()>
     requires { (18 ≤ length case.now) × (length body.now ≤ 65535) }
 {
     let n = body.len();
     let more = number_at(case, 6) as usize;
     if packet.len() < n + more {
-        expect(false);
-        return;
+        return expect(writer, false);
     }
     take_bytes(body, &mut packet[0..n]);
     make_bytes(
@@ -321,43 +369,74 @@ fn run_import(case: &[u8], body: &[u8], samples: &mut [i16], packet: &mut [u8])
         number_at(case, 10),
         &mut packet[n..n + more],
     );
-    show_import(case, &packet[0..n + more], samples);
+    show_import(writer, case, &packet[0..n + more], samples)
 }
 
-fn run(case: &[u8], body: &[u8], samples: &mut [i16], bytes: &mut [u8])
+fn run<W: Write>(
+    writer: &mut W,
+    case: &[u8],
+    body: &[u8],
+    samples: &mut [i16],
+    bytes: &mut [u8],
+) -> io::Result<()>
     requires { (18 ≤ length case.now) × (length body.now ≤ 65535) }
 {
     if case[0] == 1 {
-        run_import(case, body, samples, bytes);
-        return;
+        run_import(writer, case, body, samples, bytes)?;
+        return Ok(());
     }
-    expect(case[0] == 2);
-    run_export(case, body, samples, bytes);
+    expect(writer, case[0] == 2)?;
+    run_export(writer, case, body, samples, bytes)
 }
 
 // The cases of input.
-fn run_all(input: &[u8], samples: &mut [i16], bytes: &mut [u8]) {
+fn run_all<W: Write>(
+    writer: &mut W,
+    input: &[u8],
+    samples: &mut [i16],
+    bytes: &mut [u8],
+) -> io::Result<()> {
     let mut at: usize = 0;
     while at + CASE <= input.len() {
         let from = at + CASE;
         let next = from + number_at(input, at + 4) as usize;
         if input.len() < next {
-            expect(false);
-            return;
+            return expect(writer, false);
         }
-        run(&input[at..from], &input[from..next], samples, bytes);
+        run(writer, &input[at..from], &input[from..next], samples, bytes)?;
         at = next;
     }
-    expect(at == input.len());
+    expect(writer, at == input.len())
 }
 
-fn main() {
-    let mut input = io::large_buffer();
-    let mut more = io::buffer();
+// Shows the cases of standard input, which is read into input.
+fn show_input<R: Read, W: Write>(
+    reader: &mut R,
+    writer: &mut W,
+    input: &mut [u8],
+    samples: &mut [i16],
+    bytes: &mut [u8],
+) -> io::Result<()> {
+    let Input::Bytes(n) = read_input(reader, input) else {
+        return expect(writer, false);
+    };
+    run_all(writer, &input[..n], samples, bytes)?;
+    // the input ended there: input was large enough
+    expect(writer, matches!(reader.read(bytes), Ok(0)))
+}
+
+fn main(rt: HostRuntime) -> io::Result<()> {
+    let mut writer = BufWriter::new(rt.alloc(), io::writer(&rt))?;
+    let mut reader = rt.stdin();
+    let mut input = [0u8; 65536];
     let mut samples = [OLD_SAMPLE; SAMPLES];
     let mut bytes = [OLD_BYTE; BYTES];
-    let n = io::read_full(STDIN_FILENO, &mut input);
-    run_all(&input[..n], &mut samples, &mut bytes);
-    // the input ended there: no read failed, and input was large enough
-    expect(libc::read(STDIN_FILENO, &mut more) == 0);
+    show_input(
+        &mut reader,
+        &mut writer,
+        &mut input,
+        &mut samples,
+        &mut bytes,
+    )?;
+    writer.flush()
 }

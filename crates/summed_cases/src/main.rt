@@ -5,8 +5,10 @@
 
 ghost use Rattle.std.specs.Prelude.{◌+◌, ◌<◌, ◌≤◌, length};
 
-use libc::{STDIN_FILENO, STDOUT_FILENO};
+use input::{Input, read_input};
 use refusal::Written;
+use std::io;
+use std::io::{BufWriter, Read, Write};
 use summed::{SumState, Summed};
 
 // The bytes of an operation.
@@ -22,10 +24,11 @@ const OUTPUT: usize = 4112;
 const OLD_BYTE: u8 = 0x77;
 
 // Prints a line that the expected output does not have, unless ok.
-fn expect(ok: bool) {
+fn expect<W: Write>(writer: &mut W, ok: bool) -> io::Result<()> {
     if !ok {
-        io::write_all(STDOUT_FILENO, b"bad input\n");
+        writer.write_all(b"bad input\n")?;
     }
+    Ok(())
 }
 
 // 16 bits of two bytes, high byte first.
@@ -135,72 +138,80 @@ fn sum_of_bytes(bytes: &[u8]) -> u64 {
 }
 
 // Prints a number in so many hexadecimal digits.
-fn show_number(n: u64, digits: usize) {
-    io::write_all(STDOUT_FILENO, b" ");
-    io::print_hex(STDOUT_FILENO, n, digits);
+fn show_number<W: Write>(writer: &mut W, n: u64, digits: usize) -> io::Result<()> {
+    write!(writer, " {n:0digits$x}")
 }
 
-fn show_answer(answer: Written) {
+fn show_answer<W: Write>(writer: &mut W, answer: Written) -> io::Result<()> {
     match answer {
         Written::Count(n) => {
-            io::print_decimal(STDOUT_FILENO, n as u64);
+            write!(writer, "{}", n as u64)?;
         }
         Written::Refused(refusal) => {
-            io::write_all(STDOUT_FILENO, b"refused ");
-            io::print_decimal(STDOUT_FILENO, refusal::number(refusal) as u64);
+            writer.write_all(b"refused ")?;
+            write!(writer, "{}", refusal::number(refusal) as u64)?;
         }
     }
+    Ok(())
 }
 
-fn show_state(state: SumState) {
-    io::write_all(STDOUT_FILENO, b"; state");
-    show_number(state.next as u64, 2);
-    show_number(state.first as u64, 2);
-    show_number(state.second as u64, 2);
+fn show_state<W: Write>(writer: &mut W, state: SumState) -> io::Result<()> {
+    writer.write_all(b"; state")?;
+    show_number(writer, state.next as u64, 2)?;
+    show_number(writer, state.first as u64, 2)?;
+    show_number(writer, state.second as u64, 2)
 }
 
-fn show_total(totals: &[u64], i: usize) {
-    io::write_all(STDOUT_FILENO, b" ");
+fn show_total<W: Write>(writer: &mut W, totals: &[u64], i: usize) -> io::Result<()> {
+    writer.write_all(b" ")?;
     if i < totals.len() {
-        io::print_decimal(STDOUT_FILENO, totals[i]);
+        write!(writer, "{}", totals[i])?;
     }
+    Ok(())
 }
 
 // Prints two bytes of the output.
-fn show_code(out: &[u8], high: usize, low: usize) {
+fn show_code<W: Write>(writer: &mut W, out: &[u8], high: usize, low: usize) -> io::Result<()> {
     if high < out.len() && low < out.len() {
-        show_number(pair(out[high], out[low]) as u64, 4);
+        show_number(writer, pair(out[high], out[low]) as u64, 4)?;
     }
+    Ok(())
 }
 
 // Prints the memory's totals and codes of one bin, the bytes behind the codes, and the sums over all.
-fn show_memory(totals: &[u64], out: &[u8], k: usize)
+fn show_memory<W: Write>(writer: &mut W, totals: &[u64], out: &[u8], k: usize) -> io::Result<()>
     requires { k ≤ 65535 }
 {
-    io::write_all(STDOUT_FILENO, b"; totals");
-    show_total(totals, k);
-    show_total(totals, k + SumState::BINS);
-    io::write_all(STDOUT_FILENO, b"; codes");
-    show_code(out, 2 * k, 2 * k + 1);
-    show_code(out, 2 * k + 2048, 2 * k + 2049);
-    io::write_all(STDOUT_FILENO, b"; rest");
-    show_code(out, SumState::OUTPUT, SumState::OUTPUT + 1);
-    io::write_all(STDOUT_FILENO, b"; all");
-    show_number(sum_of_totals(totals), 8);
-    show_number(sum_of_bytes(out), 8);
-    io::write_all(STDOUT_FILENO, b"\n");
+    writer.write_all(b"; totals")?;
+    show_total(writer, totals, k)?;
+    show_total(writer, totals, k + SumState::BINS)?;
+    writer.write_all(b"; codes")?;
+    show_code(writer, out, 2 * k, 2 * k + 1)?;
+    show_code(writer, out, 2 * k + 2048, 2 * k + 2049)?;
+    writer.write_all(b"; rest")?;
+    show_code(writer, out, SumState::OUTPUT, SumState::OUTPUT + 1)?;
+    writer.write_all(b"; all")?;
+    show_number(writer, sum_of_totals(totals), 8)?;
+    show_number(writer, sum_of_bytes(out), 8)?;
+    writer.write_all(b"\n")
 }
 
 // Shows what a call left: the state after it.
-fn show_call(done: Summed, totals: &[u64], out: &[u8], bin: usize) -> SumState
+fn show_call<W: Write>(
+    writer: &mut W,
+    done: Summed,
+    totals: &[u64],
+    out: &[u8],
+    bin: usize,
+) -> io::Result<SumState>
     requires { bin ≤ 65535 }
 {
     let answer = done.answer;
     let state = done.state;
-    show_answer(answer);
-    show_state(state);
-    show_memory(totals, out, bin);
-    state
+    show_answer(writer, answer)?;
+    show_state(writer, state)?;
+    show_memory(writer, totals, out, bin)?;
+    Ok(state)
 }
 
 // The call of an operation, with the lists of the lengths that it has.
@@ -219,21 +230,22 @@ fn sum(
 }
 
 // The call of an operation: the state after it.
-fn call(
+fn call<W: Write>(
+    writer: &mut W,
     state: SumState,
     totals: &mut [u64],
     pairs: &[i16],
     out: &mut [u8],
     operation: &[u8],
-) -> SumState
+) -> io::Result<SumState>
     requires { 16 ≤ length operation.now }
 {
     let count = number_at(operation, 4);
     let numbers = number_at(operation, 6);
     let room = number_at(operation, 8);
     if totals.len() < count || pairs.len() < numbers || out.len() < room {
-        expect(false);
-        return state;
+        expect(writer, false)?;
+        return Ok(state);
     }
     let done = sum(
         state,
@@ -242,11 +254,11 @@ fn call(
         &mut out[0..room],
         operation,
     );
-    show_call(done, totals, out, number_at(operation, 10))
+    show_call(writer, done, totals, out, number_at(operation, 10))
 }
 
 // The pairs of an operation.
-fn give_pairs(pairs: &mut [i16], operation: &[u8])
+fn give_pairs<W: Write>(writer: &mut W, pairs: &mut [i16], operation: &[u8]) -> io::Result<()>
     requires { 16 ≤ length operation.now }
 {
     let from = number_at(operation, 1);
@@ -256,14 +268,14 @@ fn give_pairs(pairs: &mut [i16], operation: &[u8])
     let im = pair(operation[9], operation[10]);
     let im_step = pair(operation[11], operation[12]);
     if pairs.len() < to + to {
-        expect(false);
-        return;
+        return expect(writer, false);
     }
     put_pairs(pairs, from, to, re, re_step, im, im_step);
+    Ok(())
 }
 
 // The totals of an operation.
-fn give_totals(totals: &mut [u64], operation: &[u8])
+fn give_totals<W: Write>(writer: &mut W, totals: &mut [u64], operation: &[u8]) -> io::Result<()>
     requires { 16 ≤ length operation.now }
 {
     let from = number_at(operation, 1);
@@ -271,10 +283,10 @@ fn give_totals(totals: &mut [u64], operation: &[u8])
     let high = quad_at(operation, 5) % 4294967296;
     let low = quad_at(operation, 9) % 4294967296;
     if totals.len() < to {
-        expect(false);
-        return;
+        return expect(writer, false);
     }
     put_totals(totals, from, to, high * 4294967296 + low);
+    Ok(())
 }
 
 // Begins a history.
@@ -286,58 +298,88 @@ fn begin(totals: &mut [u64], out: &mut [u8]) -> SumState {
 }
 
 // One operation: the state after it.
-fn operate(
+fn operate<W: Write>(
+    writer: &mut W,
     state: SumState,
     totals: &mut [u64],
     pairs: &mut [i16],
     out: &mut [u8],
     operation: &[u8],
-) -> SumState
+) -> io::Result<SumState>
     requires { 16 ≤ length operation.now }
 {
     let kind = operation[0];
     if kind == 0 {
-        return begin(totals, out);
+        return Ok(begin(totals, out));
     }
     if kind == 4 {
-        return call(state, totals, pairs, out, operation);
+        return call(writer, state, totals, pairs, out, operation);
     }
     if kind == 1 {
-        give_pairs(pairs, operation);
-        return state;
+        give_pairs(writer, pairs, operation)?;
+        return Ok(state);
     }
     if kind == 2 {
-        give_totals(totals, operation);
-        return state;
+        give_totals(writer, totals, operation)?;
+        return Ok(state);
     }
-    expect(kind == 3);
-    SumState {
+    expect(writer, kind == 3)?;
+    Ok(SumState {
         next: operation[1],
         first: operation[2],
         second: operation[3],
-    }
+    })
 }
 
 // The operations of input.
-fn run(input: &[u8], totals: &mut [u64], pairs: &mut [i16], out: &mut [u8]) {
+fn run<W: Write>(
+    writer: &mut W,
+    input: &[u8],
+    totals: &mut [u64],
+    pairs: &mut [i16],
+    out: &mut [u8],
+) -> io::Result<()> {
     let mut at: usize = 0;
     let mut state = SumState::start();
     while at + OPERATION <= input.len() {
         let next = at + OPERATION;
-        state = operate(state, totals, pairs, out, &input[at..next]);
+        state = operate(writer, state, totals, pairs, out, &input[at..next])?;
         at = next;
     }
-    expect(at == input.len());
+    expect(writer, at == input.len())
 }
 
-fn main() {
-    let mut input = io::large_buffer();
-    let mut more = io::buffer();
+// Shows the cases of standard input, which is read into input.
+fn show_input<R: Read, W: Write>(
+    reader: &mut R,
+    writer: &mut W,
+    input: &mut [u8],
+    totals: &mut [u64],
+    pairs: &mut [i16],
+    out: &mut [u8],
+) -> io::Result<()> {
+    let Input::Bytes(n) = read_input(reader, input) else {
+        return expect(writer, false);
+    };
+    run(writer, &input[..n], totals, pairs, out)?;
+    // the input ended there: input was large enough
+    expect(writer, matches!(reader.read(out), Ok(0)))
+}
+
+fn main(rt: HostRuntime) -> io::Result<()> {
+    let mut writer = BufWriter::new(rt.alloc(), io::writer(&rt))?;
+    let mut reader = rt.stdin();
+    let mut input = [0u8; 65536];
     let mut totals = [0u64; TOTALS];
     let mut pairs = [0i16; PAIRS];
     let mut out = [OLD_BYTE; OUTPUT];
-    let n = io::read_full(STDIN_FILENO, &mut input);
-    run(&input[..n], &mut totals, &mut pairs, &mut out);
-    // the input ended there: no read failed, and input was large enough
-    expect(libc::read(STDIN_FILENO, &mut more) == 0);
+    show_input(
+        &mut reader,
+        &mut writer,
+        &mut input,
+        &mut totals,
+        &mut pairs,
+        &mut out,
+    )?;
+    writer.flush()
 }

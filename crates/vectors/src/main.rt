@@ -6,7 +6,8 @@
 use bands::{BandDescription, BandIndex, Cadence};
 use codes::{BandValue, SumValue};
 use refusal::Refusal;
-use std::num::{wrapping_add_u32, wrapping_sub_u32};
+use std::io;
+use std::io::{BufWriter, Write};
 
 mod show;
 
@@ -22,163 +23,171 @@ fn whole_number(f: f32) -> u64 {
     99999
 }
 
-fn show_band_code(value: u32) {
-    name(b"band code of");
-    number(value as u64);
-    hex(codes::compress_band(value) as u64, 2);
-    end();
+fn show_band_code<W: Write>(writer: &mut W, value: u32) -> io::Result<()> {
+    name(writer, b"band code of")?;
+    number(writer, value as u64)?;
+    hex(writer, codes::compress_band(value) as u64, 2)?;
+    end(writer)
 }
 
-fn show_band_value(code: u8) {
-    name(b"band code");
-    hex(code as u64, 2);
+fn show_band_value<W: Write>(writer: &mut W, code: u8) -> io::Result<()> {
+    name(writer, b"band code")?;
+    hex(writer, code as u64, 2)?;
     match codes::expand_band(code) {
-        BandValue::Value(v) => number(v),
-        BandValue::Refused(r) => refused(r),
+        BandValue::Value(v) => number(writer, v)?,
+        BandValue::Refused(r) => refused(writer, r)?,
     }
-    end();
+    end(writer)
 }
 
-fn show_band_values() {
+fn show_band_values<W: Write>(writer: &mut W) -> io::Result<()> {
     for code in 0u16..256 {
-        show_band_value(code as u8);
+        show_band_value(writer, code as u8)?;
     }
+    Ok(())
 }
 
-fn show_codes_around(value: u32) {
-    show_band_code(wrapping_sub_u32(value, 1));
-    show_band_code(value);
-    show_band_code(wrapping_add_u32(value, 1));
+fn show_codes_around<W: Write>(writer: &mut W, value: u32) -> io::Result<()> {
+    show_band_code(writer, value.wrapping_sub(1))?;
+    show_band_code(writer, value)?;
+    show_band_code(writer, value.wrapping_add(1))
 }
 
 // The codes around each quarter of a step of the mantissa.
-fn show_quarters(exponent: u32) {
+fn show_quarters<W: Write>(writer: &mut W, exponent: u32) -> io::Result<()> {
     for quarters in 16u32..32 {
-        show_codes_around(quarters << exponent % 32);
+        show_codes_around(writer, quarters << exponent % 32)?;
     }
+    Ok(())
 }
 
-fn show_small_codes() {
-    show_codes_around(1);
-    show_codes_around(4);
-    show_codes_around(7);
-    show_codes_around(10);
-    show_codes_around(13);
-    show_codes_around(16);
+fn show_small_codes<W: Write>(writer: &mut W) -> io::Result<()> {
+    show_codes_around(writer, 1)?;
+    show_codes_around(writer, 4)?;
+    show_codes_around(writer, 7)?;
+    show_codes_around(writer, 10)?;
+    show_codes_around(writer, 13)?;
+    show_codes_around(writer, 16)
 }
 
-fn show_nearest_codes() {
+fn show_nearest_codes<W: Write>(writer: &mut W) -> io::Result<()> {
     for exponent in 0u32..28 {
-        show_quarters(exponent);
+        show_quarters(writer, exponent)?;
     }
+    Ok(())
 }
 
-fn show_sum_code(value: u64) {
-    name(b"sum code of");
-    number(value);
-    hex(codes::compress_sum(value) as u64, 4);
-    end();
+fn show_sum_code<W: Write>(writer: &mut W, value: u64) -> io::Result<()> {
+    name(writer, b"sum code of")?;
+    number(writer, value)?;
+    hex(writer, codes::compress_sum(value) as u64, 4)?;
+    end(writer)
 }
 
-fn show_sum_value(code: u16) {
-    name(b"sum code");
-    hex(code as u64, 4);
+fn show_sum_value<W: Write>(writer: &mut W, code: u16) -> io::Result<()> {
+    name(writer, b"sum code")?;
+    hex(writer, code as u64, 4)?;
     match codes::expand_sum(code) {
-        SumValue::Value(v) => number(v),
-        SumValue::Refused(r) => refused(r),
+        SumValue::Value(v) => number(writer, v)?,
+        SumValue::Refused(r) => refused(writer, r)?,
     }
-    end();
+    end(writer)
 }
 
-fn show_bin(setting: u8, bin: u16) {
-    name(b"bin");
-    number(setting as u64);
-    number(bin as u64);
+fn show_bin<W: Write>(writer: &mut W, setting: u8, bin: u16) -> io::Result<()> {
+    name(writer, b"bin")?;
+    number(writer, setting as u64)?;
+    number(writer, bin as u64)?;
     match bands::band_of(setting, bin) {
-        BandIndex::Band(b) => number(b as u64),
-        BandIndex::Refused(r) => refused(r),
+        BandIndex::Band(b) => number(writer, b as u64)?,
+        BandIndex::Refused(r) => refused(writer, r)?,
     }
-    end();
+    end(writer)
 }
 
 // Every bin, and the first number past them.
-fn show_bins(setting: u8) {
+fn show_bins<W: Write>(writer: &mut W, setting: u8) -> io::Result<()> {
     for bin in 0u16..1025 {
-        show_bin(setting, bin);
+        show_bin(writer, setting, bin)?;
     }
+    Ok(())
 }
 
 // A band, numbered from 1: low edge, high edge, width and centre.
-fn show_description(setting: u8, band: u8) {
-    name(b"band");
-    number(setting as u64);
-    number(band as u64 + 1);
+fn show_description<W: Write>(writer: &mut W, setting: u8, band: u8) -> io::Result<()> {
+    name(writer, b"band")?;
+    number(writer, setting as u64)?;
+    number(writer, band as u64 + 1)?;
     match bands::describe_band(setting, band) {
         BandDescription::Described(d) => {
             let low = d.low;
             let width = d.width;
             let centre = d.centre;
-            number(whole_number(low));
-            number(whole_number(low + width));
-            number(whole_number(width));
-            number(whole_number(centre));
+            number(writer, whole_number(low))?;
+            number(writer, whole_number(low + width))?;
+            number(writer, whole_number(width))?;
+            number(writer, whole_number(centre))?;
         }
-        BandDescription::Refused(r) => refused(r),
+        BandDescription::Refused(r) => refused(writer, r)?,
     }
-    end();
+    end(writer)
 }
 
-fn show_descriptions(setting: u8, count: u8) {
+fn show_descriptions<W: Write>(writer: &mut W, setting: u8, count: u8) -> io::Result<()> {
     for band in 0..count {
-        show_description(setting, band);
+        show_description(writer, setting, band)?;
     }
+    Ok(())
 }
 
-fn show_cadence(choice: u8) {
-    name(b"cadence");
-    number(choice as u64);
+fn show_cadence<W: Write>(writer: &mut W, choice: u8) -> io::Result<()> {
+    name(writer, b"cadence")?;
+    number(writer, choice as u64)?;
     match bands::cadence_of(choice) {
         Cadence::Rate(f) => {
-            name(b" rate");
-            number(whole_number(f));
+            name(writer, b" rate")?;
+            number(writer, whole_number(f))?;
         }
         Cadence::Period(f) => {
-            name(b" period");
-            number(whole_number(f));
+            name(writer, b" period")?;
+            number(writer, whole_number(f))?;
         }
-        Cadence::Refused(r) => refused(r),
+        Cadence::Refused(r) => refused(writer, r)?,
     }
-    end();
+    end(writer)
 }
 
-fn show_cadences() {
+fn show_cadences<W: Write>(writer: &mut W) -> io::Result<()> {
     for choice in 0u8..12 {
-        show_cadence(choice);
+        show_cadence(writer, choice)?;
     }
+    Ok(())
 }
 
-fn main() {
-    show_band_code(9);
-    show_band_code(15);
-    show_band_code(16);
-    show_band_code(4294967295);
-    show_sum_code(1023);
-    show_sum_value(0xFC00);
-    show_bin(0, 4);
-    show_bin(0, 1023);
-    show_bin(1, 1023);
-    show_bin(2, 1023);
-    show_bin(2, 1024);
-    show_bin(3, 0);
-    show_band_values();
-    show_small_codes();
-    show_nearest_codes();
-    show_cadences();
-    show_bins(0);
-    show_bins(1);
-    show_bins(2);
-    show_descriptions(0, 37);
-    show_descriptions(1, 65);
-    show_descriptions(2, 113);
-    show_description(3, 0);
+fn main(rt: HostRuntime) -> io::Result<()> {
+    let mut writer = BufWriter::new(rt.alloc(), io::writer(&rt))?;
+    show_band_code(&mut writer, 9)?;
+    show_band_code(&mut writer, 15)?;
+    show_band_code(&mut writer, 16)?;
+    show_band_code(&mut writer, 4294967295)?;
+    show_sum_code(&mut writer, 1023)?;
+    show_sum_value(&mut writer, 0xFC00)?;
+    show_bin(&mut writer, 0, 4)?;
+    show_bin(&mut writer, 0, 1023)?;
+    show_bin(&mut writer, 1, 1023)?;
+    show_bin(&mut writer, 2, 1023)?;
+    show_bin(&mut writer, 2, 1024)?;
+    show_bin(&mut writer, 3, 0)?;
+    show_band_values(&mut writer)?;
+    show_small_codes(&mut writer)?;
+    show_nearest_codes(&mut writer)?;
+    show_cadences(&mut writer)?;
+    show_bins(&mut writer, 0)?;
+    show_bins(&mut writer, 1)?;
+    show_bins(&mut writer, 2)?;
+    show_descriptions(&mut writer, 0, 37)?;
+    show_descriptions(&mut writer, 1, 65)?;
+    show_descriptions(&mut writer, 2, 113)?;
+    show_description(&mut writer, 3, 0)?;
+    writer.flush()
 }

@@ -1,25 +1,25 @@
 // Words and numbers on standard output, a space before each number.
 use refusal::Refusal;
+use std::io;
+use std::io::Write;
 
-pub(crate) fn name(text: &[u8]) {
-    io::write_all(1, text);
+pub(crate) fn name<W: Write>(writer: &mut W, text: &[u8]) -> io::Result<()> {
+    writer.write_all(text)
 }
 
-pub(crate) fn number(n: u64) {
-    io::write_all(1, b" ");
-    io::print_decimal(1, n);
+pub(crate) fn number<W: Write>(writer: &mut W, n: u64) -> io::Result<()> {
+    write!(writer, " {n}")
 }
 
-pub(crate) fn hex(n: u64, width: usize) {
-    io::write_all(1, b" ");
-    io::print_hex(1, n, width);
+pub(crate) fn hex<W: Write>(writer: &mut W, n: u64, width: usize) -> io::Result<()> {
+    write!(writer, " {n:0width$x}")
 }
 
-pub(crate) fn refused(r: Refusal) {
-    io::write_all(1, b" refused");
-    number(refusal::number(r) as u64);
+pub(crate) fn refused<W: Write>(writer: &mut W, r: Refusal) -> io::Result<()> {
+    writer.write_all(b" refused")?;
+    number(writer, refusal::number(r) as u64)
 }
 
-pub(crate) fn end() {
-    io::write_all(1, b"\n");
+pub(crate) fn end<W: Write>(writer: &mut W) -> io::Result<()> {
+    writer.write_all(b"\n")
 }
