@@ -11,23 +11,23 @@ use Rattle.dfb_coarse.proofs.Apart.{coarse-below}
 use Rattle.dfb_coarse.proofs.dfb_coarse_totals.Statement.{statement}
 use Rattle.dfb_coarse.proofs.dfb_coarse_totals.Tie as tie
 
-cast-result : tie.Need-overflow-cast-result
+cast-result : tie.Need-overflow_cast-result
 cast-result c =
-    let call = c.before.before.before.before.before.coarse-totals.ensures in
-    omega (arith, (coarse-below _ _ _).value _ (sym (ap (λ (f : Filled ℕ). f.answer) call) ∙ ap written_outcome c.before.n.given.1))
+    let call = c.coarse_totals.ensures in
+    omega (arith, (coarse-below _ _ _).value _ (sym (ap (λ (f : Filled ℕ). f.answer) call) ∙ ap written_outcome c.in-Count.is))
 
-returns : tie.Need-returns
+returns : tie.Need-returns-in-Count
 returns c =
-    numbered above16 _ (sym (ap (λ (w : Written). outcome_number above16 (written_outcome w)) c.before.n.given.1))
-    c.before.before.before.before.before.coarse-totals.ensures
+    numbered above16 _ (sym (ap (λ (w : Written). outcome_number above16 (written_outcome w)) c.in-Count.is))
+    c.coarse_totals.ensures
 
-returns-2 : tie.Need-returns-2
+returns-2 : tie.Need-returns-in-Refused
 returns-2 c =
-    numbered above16 _ (refused-number above16 c.before.before.refusal.given.0.0 c.above-16.ensures (ap written_outcome (sym c.before.before.refusal.given.1)))
-    c.before.before.before.before.before.before.coarse-totals.ensures
+    numbered above16 _ (refused-number above16 c.in-Refused.refusal c.above_16.ensures (ap written_outcome (sym c.in-Refused.is)))
+    c.coarse_totals.ensures
 
-pub dfb-coarse-totals-spec : {M : Type 1} → statement M
-dfb-coarse-totals-spec =
+pub dfb_coarse_totals_spec : {M : Type 1} → statement M
+dfb_coarse_totals_spec =
     tie.close
     (tie.spec
     (λ c κs. search rules)
