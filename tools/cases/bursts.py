@@ -62,9 +62,14 @@ for comment, count, sending, ops in cases:
         slots = after
         text += "%s %s%02d%s %s\n" % (op, "r" if answer < 0 else "s", abs(answer), looked, "".join(map(shown, slots[:32])))
     text += "\n"
-    calls += '    // %s\n    run(%d, %d, b"%s");\n' % (comment, count, sending, ops)
+    arguments = "&mut writer", str(count), str(sending), 'b"%s"' % ops
+    line = ", ".join(arguments)
+    if len(line) > 60:  # as rt fmt lays it out
+        line = "\n" + "".join("        %s,\n" % argument for argument in arguments) + "    "
+    calls += "    // %s\n    run(%s)?;\n" % (comment, line)
 main = os.path.join(crate, "src", "main.rt")
 program = open(main, encoding="utf8").read()
-head = program[:program.index("fn main()")]
-open(main, "w", encoding="utf8").write(head + "fn main() {\n" + calls + "}\n")
+head = program[:program.index("fn main(")]
+begin = "fn main(rt: HostRuntime) -> io::Result<()> {\n    let mut writer = BufWriter::new(rt.alloc(), io::writer(&rt))?;\n"
+open(main, "w", encoding="utf8").write(head + begin + calls + "    writer.flush()\n}\n")
 open(os.path.join(crate, "stdout"), "w", encoding="utf8").write(text)

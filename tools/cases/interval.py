@@ -54,20 +54,22 @@ text, functions, calls = "", "", ""
 for n, (comment, index, bonus, limit) in enumerate(cases, 1):
     kind = ": [u32; 0]" if not index else ""
     values = ", ".join("%du32" % c if k == 0 else str(c) for k, c in enumerate(index))
-    functions += "// %s\nfn case_%d() {\n    let index%s = [%s];\n    show(&index, %d, %d);\n}\n\n" % (comment, n, kind, values, bonus, limit)
-    calls += "    case_%d();\n" % n
+    head = "// %s\nfn case_%d<W: Write>(writer: &mut W) -> io::Result<()> {\n" % (comment, n)
+    functions += head + "    let index%s = [%s];\n    show(writer, &index, %d, %d)\n}\n\n" % (kind, values, bonus, limit)
+    calls += "    case_%d(&mut writer)?;\n" % n
     text += choose(index, bonus, limit) + "\n"
 for place, top, bonus, limit in long_cases:
     index = [7] * 16000
     index[place] = top
-    calls += "    show_long(%d, %d, %d, %d);\n" % (place, top, bonus, limit)
+    calls += "    show_long(&mut writer, %d, %d, %d, %d)?;\n" % (place, top, bonus, limit)
     text += choose(index, bonus, limit) + "\n"
 for limit in (1, 0):
-    calls += "    show_too_long(%d);\n" % limit
+    calls += "    show_too_long(&mut writer, %d)?;\n" % limit
     text += choose([7] * 16001, 0, limit) + "\n"
 main = os.path.join(crate, "src", "main.rt")
 program = open(main, encoding="utf8").read()
 mark = "// ---- cases\n"
 head = program[:program.index(mark)] + mark
-open(main, "w", encoding="utf8").write(head + "\n" + functions + "fn main() {\n" + calls + "}\n")
+begin = "fn main(rt: HostRuntime) -> io::Result<()> {\n    let mut writer = BufWriter::new(rt.alloc(), io::writer(&rt))?;\n"
+open(main, "w", encoding="utf8").write(head + "\n" + functions + begin + calls + "    writer.flush()\n}\n")
 open(os.path.join(crate, "stdout"), "w", encoding="utf8").write(text)
