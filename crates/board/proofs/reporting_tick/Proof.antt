@@ -8,7 +8,7 @@ use lib.ListN.{length}
 use Rattle.model.specs.Totals.{slot, added}
 use Rattle.model.specs.Calls.{Powers}
 use Rattle.model.specs.Claims.{NoMeanOver}
-use Rattle.model.proofs.Ticks.{means-within}
+use Rattle.model.proofs.Means.{means-within}
 use Rattle.totals.proofs.Laws.{length-added}
 use Rattle.refusal.specs.Outcome.{Outcome}
 use Rattle.report.specs.Writing.{ReportLeft, report_written}
