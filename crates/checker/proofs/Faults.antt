@@ -17,7 +17,7 @@ use Rattle.board_log.specs.declared.Command.{Command}
 use Rattle.board_log.specs.declared.Word.{Word}
 use Rattle.board_log.specs.declared.Record.{Record}
 use Rattle.board_log.specs.Format.{is_kind, decode, checked}
-use Rattle.board_log.specs.Cursor.{Found, found, end, read_at, next_place, found_checked}
+use Rattle.board_log.specs.Cursor.{Found, read_at, next_place, found_checked}
 use Rattle.board_log.proofs.Encoding.{read-end}
 use Rattle.checker.specs.Check.{Judged, accepted, refused_at, Standing, Stepped, next, last, within_period, check_command, check_mark, after_record, end_judgement, judged_at, record_step, read_step, step_at}
 use Rattle.checker.proofs.Period.{over-broken, broken-over}

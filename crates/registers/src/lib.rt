@@ -1,5 +1,6 @@
 // The seven spectral registers 0x30 to 0x36 (01, "Registers 0x30 to 0x36"). Register n, counted from 0, belongs to processor n + 1.
 #![tactic(auto)]
+
 ghost use Rattle.std.specs.Prelude.{◌≡◌, ◌&&◌, ◌≤◌, leb};
 ghost use Rattle.registers.specs.Store.{limited, low_stored, high_stored, stored_at, can_store};
 ghost use Rattle.registers.specs.Access.{fields_of, at_reset, is_id, registers_sound, outcome_of, write_outcome};

@@ -1,7 +1,6 @@
 -- `board::are_within` meets its contract: of 784 totals no refusal comes. Assumes nothing.
 use mathlib.Core.Path.{◌≡◌, ap, sym, ◌∙◌}
-use mathlib.Core.Bool.{Bool}
-use Rattle.refusal.specs.Outcome.{Outcome, given, refused}
+use Rattle.refusal.specs.Outcome.{given}
 use Rattle.refusal.proofs.Outcomes.{given-same, refused-given}
 use Rattle.model.specs.Board.{totals_within}
 use Rattle.limits.specs.Within.{limits_outcome}

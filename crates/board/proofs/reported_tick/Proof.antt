@@ -1,9 +1,8 @@
 -- `board::reported_tick` meets its contract. Assumes nothing.
-use mathlib.Core.Path.{◌≡◌, ap, sym, ◌∙◌}
+use mathlib.Core.Path.{ap, sym, ◌∙◌}
 use Rattle.report.specs.Writing.{word_count_outcome}
 use Rattle.report.specs.declared.WordCount.{WordCount}
 use Rattle.model.specs.Board.{tick_reply}
-use Rattle.model.specs.declared.State.{State}
 use Rattle.model.specs.declared.Ticked.{Ticked}
 use Rattle.board.specs.Private.{report_reply, report_state}
 use borrow.Author.Rules.{rules}

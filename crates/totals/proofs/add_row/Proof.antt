@@ -9,7 +9,7 @@ use Rattle.registers.specs.Store.{band_count}
 use Rattle.registers.proofs.Counts.{bands-count}
 use Rattle.totals.specs.Private.{row_slot}
 use Rattle.bands.proofs.Octaves.{shifted_size, shifted-size, size-le, bands-size, octave-bins}
-use Rattle.totals.proofs.Rows.{octave_slot, no-octave, octave-ends, narrow-over, octave-over, kept, row_done}
+use Rattle.totals.proofs.Rows.{octave_slot, no-octave, octave-ends, narrow-over, octave-over, row_done}
 use Rattle.totals.proofs.add_row.Statement.{statement}
 use Rattle.totals.proofs.add_row.Tie as tie
 
