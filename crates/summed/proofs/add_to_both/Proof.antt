@@ -43,14 +43,14 @@ loop-holds c = (omega arith, all-length c.before, table_none _ _, table_none _ _
 
 add-totals : tie.Need-overflow_add-totals invariant-loop decreases-loop
 add-totals c =
-    let start = c.before.before.before.before.before.before.before in
+    let start = c in
     let l = c.loop-k in
     let kept = first_next start.args.totals.now l.totals start.args.pairs.now l.k (omega arith) l.invariant.2 l.invariant.3 in
     omega (arith, kept, start.requires.0.small l.k (omega arith), c.power-added.ensures.1)
 
 add-totals-3 : tie.Need-overflow_add-totals-in-loop-k-2 invariant-loop decreases-loop
 add-totals-3 c =
-    let start = c.before.before.before.before.before.before.before.before in
+    let start = c in
     let l = c.loop-k in
     let kept = second-next start.args.totals.now l.totals start.args.pairs.now l.k (omega arith) l.invariant.2 l.invariant.3
     (get_or l.totals l.k 0 + c.power-added.result) in
@@ -58,7 +58,7 @@ add-totals-3 c =
 
 loop-again : tie.Need-loop-k-preserved invariant-loop decreases-loop
 loop-again c =
-    let start = c.before.before.before.before.before.before.before.before in
+    let start = c in
     let t = start.args.totals.now in
     let pairs = start.args.pairs.now in
     let l = c.loop-k in
@@ -72,7 +72,7 @@ loop-again c =
 
 returns : tie.Need-returns invariant-loop decreases-loop
 returns c =
-    let start = c.before.before.before in
+    let start = c in
     let t = start.args.totals.now in
     let pairs = start.args.pairs.now in
     let l = c.loop-k in

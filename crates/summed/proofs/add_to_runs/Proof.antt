@@ -40,7 +40,7 @@ due c x y e f =
 
 add-to-both-requires : tie.Need-add_to_both-requires
 add-to-both-requires c κs =
-    let start = c.before.before.before.before.before.before in
+    let start = c in
     let a = start.args in
     (first-ready a.state a.totals.now a.pairs.now start.requires, second-ready a.state a.totals.now a.pairs.now start.requires)
 
@@ -49,13 +49,13 @@ slice-aggregate-add-powers c = sym (length-take-le 1024 c.args.totals.now (omega
 
 add-powers-requires : tie.Need-add_powers-requires
 add-powers-requires c κs =
-    let start = c.before.before.before.before.before.before in
+    let start = c in
     let a = start.args in
     first-ready a.state a.totals.now a.pairs.now start.requires
 
 add-powers-requires-2 : tie.Need-add_powers-requires-then-is_second-2
 add-powers-requires-2 c κs =
-    let start = c.before.before.before.before.before.before in
+    let start = c in
     let a = start.args in
     rw (from_on 1024 a.totals.now) (second-ready a.state a.totals.now a.pairs.now start.requires)
 
