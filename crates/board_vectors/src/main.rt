@@ -12,8 +12,7 @@ use std::io::{BufWriter, Write};
 
 fn line<W: Write>(writer: &mut W, label: &[u8], n: u64) -> io::Result<()> {
     writer.write_all(label)?;
-    write!(writer, "{n}")?;
-    writer.write_all(b"\n")
+    writeln!(writer, "{n}")
 }
 
 fn refused(refusal: Refusal) -> u64 {

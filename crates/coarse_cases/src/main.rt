@@ -63,11 +63,10 @@ fn show_totals<W: Write>(writer: &mut W, totals: &[u64; 66]) -> io::Result<()> {
 fn show_written<W: Write>(writer: &mut W, written: Written) -> io::Result<()> {
     match written {
         Written::Count(n) => {
-            write!(writer, "{}", n as u64)?;
+            write!(writer, "{n}")?;
         }
         Written::Refused(refusal) => {
-            writer.write_all(b"refused ")?;
-            write!(writer, "{}", refusal::number(refusal) as u64)?;
+            write!(writer, "refused {}", refusal::number(refusal))?;
         }
     }
     Ok(())

@@ -105,7 +105,7 @@ fn show_used<W: Write>(writer: &mut W, log: &[u8], used: usize) -> io::Result<()
 }
 
 fn show_byte<W: Write>(writer: &mut W, byte: u8) -> io::Result<()> {
-    write!(writer, "{:02x}", byte as u64)
+    write!(writer, "{byte:02x}")
 }
 
 // Prints all of a log.

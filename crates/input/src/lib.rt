@@ -29,7 +29,7 @@ pub fn read_input<R: Read>(reader: &mut R, buf: &mut [u8]) -> Input
 }
 
 // What failed, without the number that the library puts behind the system's words.
-fn words(text: &str) -> &str {
+fn reason(text: &str) -> &str {
     match text.rsplit_once(" (os error ") {
         Some((front, _)) => front,
         None => text,
@@ -38,7 +38,7 @@ fn words(text: &str) -> &str {
 
 fn try_fail<R: Eprint + Alloc>(rt: &R, what: &str, error: io::Error) -> io::Result<()> {
     let text = format!(in rt.alloc(); "{error}")?;
-    eprintln!(rt; "{what}: {}", words(text.as_str()))
+    eprintln!(rt; "{what}: {}", reason(text.as_str()))
 }
 
 // Says on standard error what failed, and why in the system's words. Where that fails too, there is nowhere left to say so.

@@ -23,7 +23,7 @@ fn expect<W: Write>(writer: &mut W, ok: bool) -> io::Result<()> {
 }
 
 fn show_byte<W: Write>(writer: &mut W, byte: u8) -> io::Result<()> {
-    write!(writer, "{:02x}", byte as u64)
+    write!(writer, "{byte:02x}")
 }
 
 // Prints bytes, two hexadecimal digits each, and a line end.
@@ -48,7 +48,7 @@ fn show_sample<W: Write>(writer: &mut W, sample: i16) -> io::Result<()> {
     if sample < 0 {
         writer.write_all(b"-")?;
     }
-    write!(writer, "{}", magnitude(sample) as u64)
+    write!(writer, "{}", magnitude(sample))
 }
 
 // Prints samples in decimal, and a line end.
@@ -60,14 +60,13 @@ fn show_samples<W: Write>(writer: &mut W, samples: &[i16]) -> io::Result<()> {
 }
 
 fn show_refusal<W: Write>(writer: &mut W, refusal: Refusal) -> io::Result<()> {
-    writer.write_all(b"refused ")?;
-    write!(writer, "{}", refusal::number(refusal) as u64)
+    write!(writer, "refused {}", refusal::number(refusal))
 }
 
 fn show_written<W: Write>(writer: &mut W, written: Written) -> io::Result<()> {
     match written {
         Written::Count(n) => {
-            write!(writer, "{}", n as u64)?;
+            write!(writer, "{n}")?;
         }
         Written::Refused(refusal) => show_refusal(writer, refusal)?,
     }
@@ -77,7 +76,7 @@ fn show_written<W: Write>(writer: &mut W, written: Written) -> io::Result<()> {
 // Prints a byte and 16 bits.
 fn show_pair<W: Write>(writer: &mut W, first: u8, second: u16) -> io::Result<()> {
     show_byte(writer, first)?;
-    write!(writer, " {:04x}", second as u64)
+    write!(writer, " {second:04x}")
 }
 
 fn show_record<W: Write>(writer: &mut W, rec: Record) -> io::Result<()> {
@@ -91,8 +90,7 @@ fn show_record<W: Write>(writer: &mut W, rec: Record) -> io::Result<()> {
             show_pair(writer, w.apid, w.bits)?;
         }
         Record::SecondMark(seconds) => {
-            writer.write_all(b"mark ")?;
-            write!(writer, "{}", seconds as u64)?;
+            write!(writer, "mark {seconds}")?;
         }
         Record::Tick => {
             writer.write_all(b"tick")?;
@@ -106,8 +104,7 @@ fn show_answer<W: Write>(writer: &mut W, read: Read) -> io::Result<()> {
     match read {
         Read::Record(rec, next) => {
             show_record(writer, rec)?;
-            writer.write_all(b" to ")?;
-            write!(writer, "{}", next as u64)?;
+            write!(writer, " to {next}")?;
         }
         Read::End => {
             writer.write_all(b"end")?;
@@ -237,9 +234,7 @@ fn show_step<W: Write>(writer: &mut W, log: &[u8], at: usize) -> io::Result<usiz
     let next = handed.at;
     writer.write_all(b" ")?;
     show_answer(writer, read)?;
-    writer.write_all(b" at ")?;
-    write!(writer, "{}", next as u64)?;
-    writer.write_all(b";")?;
+    write!(writer, " at {next};")?;
     Ok(next)
 }
 

@@ -23,8 +23,7 @@ fn print<W: Write>(writer: &mut W, text: &[u8]) -> io::Result<()> {
     if n <= 65536 {
         return writer.write_all(text);
     }
-    write!(writer, "{}", n as u64)?;
-    writer.write_all(b"\n")?;
+    writeln!(writer, "{n}")?;
     let from = n - 16;
     writer.write_all(&text[from..])
 }

@@ -34,7 +34,7 @@ fn expect<W: Write>(writer: &mut W, ok: bool) -> io::Result<()> {
 }
 
 fn show_byte<W: Write>(writer: &mut W, byte: u8) -> io::Result<()> {
-    write!(writer, "{:02x}", byte as u64)
+    write!(writer, "{byte:02x}")
 }
 
 // Prints the first n bytes, two hexadecimal digits each, and a line end.
@@ -61,7 +61,7 @@ fn show_sample<W: Write>(writer: &mut W, sample: i16) -> io::Result<()> {
     if sample < 0 {
         writer.write_all(b"-")?;
     }
-    write!(writer, "{}", magnitude(sample) as u64)
+    write!(writer, "{}", magnitude(sample))
 }
 
 // Prints the first n samples in decimal, and a line end.
@@ -75,8 +75,7 @@ fn show_samples<W: Write>(writer: &mut W, samples: &[i16; SAMPLES], n: usize) ->
 }
 
 fn show_refusal<W: Write>(writer: &mut W, refusal: Refusal) -> io::Result<()> {
-    writer.write_all(b" refused ")?;
-    write!(writer, "{}", refusal::number(refusal) as u64)
+    write!(writer, " refused {}", refusal::number(refusal))
 }
 
 // Prints a number in so many hexadecimal digits.
@@ -112,8 +111,7 @@ fn show_packet_read<W: Write>(writer: &mut W, read: PacketRead) -> io::Result<()
     match read {
         PacketRead::Packet(header, n) => {
             show_header(writer, header)?;
-            writer.write_all(b" count ")?;
-            write!(writer, "{}", n as u64)?;
+            write!(writer, " count {n}")?;
         }
         PacketRead::Refused(refusal) => show_refusal(writer, refusal)?,
     }
@@ -124,7 +122,7 @@ fn show_written<W: Write>(writer: &mut W, written: Written) -> io::Result<()> {
     writer.write_all(b"write")?;
     match written {
         Written::Count(n) => {
-            write!(writer, " {}", n as u64)?;
+            write!(writer, " {n}")?;
         }
         Written::Refused(refusal) => show_refusal(writer, refusal)?,
     }

@@ -150,8 +150,7 @@ fn make_bytes(start: u16, step: u16, bytes: &mut [u8]) {
 }
 
 fn show_refusal<W: Write>(writer: &mut W, refusal: Refusal) -> io::Result<()> {
-    writer.write_all(b" refused ")?;
-    write!(writer, "{}", refusal::number(refusal) as u64)
+    write!(writer, " refused {}", refusal::number(refusal))
 }
 
 fn show_number<W: Write>(writer: &mut W, n: u64) -> io::Result<()> {
@@ -201,11 +200,11 @@ fn show_sample<W: Write>(writer: &mut W, sample: i16) -> io::Result<()> {
     if sample < 0 {
         writer.write_all(b"-")?;
     }
-    write!(writer, "{}", magnitude(sample) as u64)
+    write!(writer, "{}", magnitude(sample))
 }
 
 fn show_byte<W: Write>(writer: &mut W, byte: u8) -> io::Result<()> {
-    write!(writer, "{:02x}", byte as u64)
+    write!(writer, "{byte:02x}")
 }
 
 // Prints the samples from a place on and below another, in decimal.
@@ -236,9 +235,7 @@ fn show_bytes<W: Write>(writer: &mut W, bytes: &[u8], from: usize, to: usize) ->
 }
 
 fn show_sum<W: Write>(writer: &mut W, sum: u64) -> io::Result<()> {
-    writer.write_all(b"; all ")?;
-    write!(writer, "{sum:08x}")?;
-    writer.write_all(b"\n")
+    writeln!(writer, "; all {sum:08x}")
 }
 
 // Exports samples to so many bytes of out.

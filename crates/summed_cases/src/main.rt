@@ -145,11 +145,10 @@ fn show_number<W: Write>(writer: &mut W, n: u64, digits: usize) -> io::Result<()
 fn show_answer<W: Write>(writer: &mut W, answer: Written) -> io::Result<()> {
     match answer {
         Written::Count(n) => {
-            write!(writer, "{}", n as u64)?;
+            write!(writer, "{n}")?;
         }
         Written::Refused(refusal) => {
-            writer.write_all(b"refused ")?;
-            write!(writer, "{}", refusal::number(refusal) as u64)?;
+            write!(writer, "refused {}", refusal::number(refusal))?;
         }
     }
     Ok(())
