@@ -24,7 +24,7 @@ seven r = length-tabulate 7 (register r)
 pub returns-then-list-lt-COUNT : goal.returns-then-list-lt-COUNT
 returns-then-list-lt-COUNT c =
     let a = c.args in
-    numbered above63 _ c.above_63.ensures (values-short (values a.registers) a.list.now (omega (arith, seven a.registers, c.if-list-lt-COUNT.true)))
+    numbered above63 _ c.above_63.ensures (values-short (values a.registers) a.list.now (omega (arith, seven a.registers)))
 
 pub loop-n-init : goal.loop-n-init
 loop-n-init c = (omega arith, refl, table_none (register c.args.registers) c.args.list.now)
@@ -33,7 +33,7 @@ pub loop-n-preserved : goal.loop-n-preserved
 loop-n-preserved c =
     let a = c.args in
     let l = c.loop-n in
-    (omega arith, simp length-set l.invariant.1, table_more (register a.registers) a.list.now l.n _ 0 l.list l.invariant.2 (omega (arith, c.if-list-lt-COUNT.false)) refl)
+    (omega arith, simp length-set l.invariant.1, table_more (register a.registers) a.list.now l.n _ 0 l.list l.invariant.2 (omega arith) refl)
 
 -- all seven
 filled-all : (r : Registers) (before list : List ℕ) (n : ℕ) → n ≡ 7 → 7 ≤ length before → list ≡ overwrite (tabulate n (register r)) before
@@ -46,7 +46,7 @@ pub returns : goal.returns
 returns c =
     let a = c.args in
     let l = c.loop-n in
-    filled-all a.registers a.list.now l.list l.n (omega (arith, l.invariant.0)) (omega (arith, c.if-list-lt-COUNT.false)) l.invariant.2
+    filled-all a.registers a.list.now l.list l.n (omega (arith, l.invariant.0)) (omega arith) l.invariant.2
 
 pub shape_of-list : goal.shape_of-list
 shape_of-list c = c.loop-n.invariant.1
