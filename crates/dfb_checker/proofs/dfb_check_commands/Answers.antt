@@ -2,7 +2,6 @@
 use Prim.Native.Nat.{ℕ, ◌%◌, ◌+◌, ◌^◌}
 use mathlib.Core.Path.{◌≡◌, sym, ap, ◌∙◌}
 use native.Mathlib.Omega.{arith}
-use borrow.Author.Rules.{rules}
 use Rattle.refusal.specs.Number.{number_of}
 use Rattle.registers.specs.declared.Registers.{Registers}
 use Rattle.checker.specs.Check.{accepted, refused_at, judgement_outcome, Checked}
@@ -11,44 +10,28 @@ use Rattle.dfb_refusals.specs.Numbers.{above63, with_offset, filled_number}
 use Rattle.dfb_refusals.proofs.Numbers.{numbered}
 use Rattle.dfb_checker.specs.Answer.{judged_answer}
 use Rattle.dfb_checker.proofs.Theorems.{too_long, verdict-answered}
-use Rattle.dfb_checker.proofs.dfb_check_commands.Statement.{statement}
-use Rattle.dfb_checker.proofs.dfb_check_commands.Tie as tie
+use Rattle.dfb_checker.proofs.dfb_check_commands.Goals as goal
 
-returns : tie.Need-returns-then-log-ge-TOO_LONG
-returns c =
+pub returns-then-log-ge-TOO_LONG : goal.returns-then-log-ge-TOO_LONG
+returns-then-log-ge-TOO_LONG c =
     let a = c.args in
-    numbered above63 _ c.above_63.ensures (too_long a.log.now a.registers.now (omega (arith, c.if-log-ge-TOO_LONG.true)))
+    numbered above63 _ c.above_63.ensures (too_long a.log.now a.registers.now (omega arith))
 
-returns-2 : tie.Need-returns-in-Accepted
-returns-2 c =
+pub returns-in-Accepted : goal.returns-in-Accepted
+returns-in-Accepted c =
     let a = c.args in
     let v = c.check-verdict.ensures in
     let e = sym (ap (λ (x : Checked). x.judged) v) ∙ ap judgement_outcome c.in-Accepted.is in
     c.put_registers.ensures
     ∙ ap (λ (r : Registers). filled_number above63 (judged_answer accepted r a.registers.now)) (ap (λ (x : Checked). x.registers) v)
-    ∙ sym (ap (filled_number above63) (verdict-answered a.log.now a.registers.now accepted (omega (arith, c.if-log-ge-TOO_LONG.false)) e))
+    ∙ sym (ap (filled_number above63) (verdict-answered a.log.now a.registers.now accepted (omega arith) e))
 
-returns-3 : tie.Need-returns-in-Refused
-returns-3 c =
+pub returns-in-Refused : goal.returns-in-Refused
+returns-in-Refused c =
     let a = c.args in
     let n = number_of c.in-Refused.refusal in
     let offset = c.in-Refused.offset in
     let e = sym (ap (λ (x : Checked). x.judged) c.check-verdict.ensures) ∙ ap judgement_outcome c.in-Refused.is in
-    let whole : offset % 2 ^ 55 ≡ offset = omega (arith, (check-refusals a.log.now n offset e).inside, c.if-log-ge-TOO_LONG.false) in
+    let whole : offset % 2 ^ 55 ≡ offset = omega (arith, (check-refusals a.log.now n offset e).inside) in
     numbered above63 _ (c.above_63_at.ensures ∙ ap (λ (k : ℕ). above63 + with_offset n k) whole)
-    (sym (verdict-answered a.log.now a.registers.now (refused_at n offset) (omega (arith, c.if-log-ge-TOO_LONG.false)) e))
-
-pub dfb_check_commands_spec : {M : Type 1} → statement M
-dfb_check_commands_spec =
-    tie.close
-    (tie.spec
-    (λ c κs. search rules)
-    returns
-    (λ c κs. search rules)
-    (λ c. search rules)
-    (λ c κs. search rules)
-    (λ c. search rules)
-    (λ c κs. search rules)
-    (λ c. search rules)
-    returns-2
-    returns-3)
+    (sym (verdict-answered a.log.now a.registers.now (refused_at n offset) (omega arith) e))
