@@ -7,7 +7,7 @@ use borrow.Author.Tests.{leb-true}
 use lib.Dec.{leb}
 use Rattle.lists.proofs.Choices.{cond-at, both}
 use Rattle.codes.specs.Expanded.{band_expanded, sum_expanded}
-use Rattle.codes.proofs.BandCode.{expanded-le}
+use Rattle.codes.proofs.Neighbours.{expanded-le}
 use Rattle.bands.specs.Band.{size_exponent, band_of}
 use Rattle.bands.specs.Answer.{band_found, band_described, CadenceValue, rate, period, cadence_of}
 use Rattle.bands.proofs.Settings.{band-lt}

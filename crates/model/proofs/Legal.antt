@@ -14,7 +14,8 @@ use Rattle.lists.specs.Tables.{concat_to}
 use Rattle.lists.proofs.Choices.{by_cases, cond-related}
 use Rattle.lists.proofs.Sums.{sum_to-ones, sum_to-mul}
 use Rattle.codes.specs.Code.{band_code, band_legal, legal_word, legal_words}
-use Rattle.codes.proofs.BandCode.{band-legal, legal-of}
+use Rattle.codes.proofs.BandCode.{band-legal}
+use Rattle.codes.proofs.Neighbours.{legal-of}
 use Rattle.codes.proofs.LegalWords.{legal-none, legal-more, legal-append}
 use Rattle.registers.specs.declared.Registers.{Registers}
 use Rattle.settings.specs.Settings.{enabled_of, words_each, spec_words}

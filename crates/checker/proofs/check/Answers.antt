@@ -19,6 +19,10 @@ use Rattle.board_log.proofs.Moves.{found-parts, command-known}
 use Rattle.checker.specs.Check.{Judged, Standing, stores_sent, check_record, after_record, read_step, check_from, commands_checked}
 use Rattle.checker.specs.Private.{allowed_outcome}
 use Rattle.checker.proofs.Steps.{step-without, step-refused, step_kept, from_next, from_last}
+use mathlib.Core.Path.{refl}
+use mathlib.Core.Logic.{inl, inr}
+use Rattle.board_log.specs.declared.Read.{Read}
+use Rattle.board_log.proofs.Tags.{NoRecord}
 use Rattle.checker.proofs.check.Goals as goal
 
 -- a command that was read has the ID of a register
@@ -37,6 +41,12 @@ pub loop-entry-init : goal.loop-entry-init
 unfolding commands_checked
 loop-entry-init c = ap (λ (r : Registers). check_from c.args.log.now 0 (record { second = 0; registers = r })) c.reset-registers.ensures
 
+-- a read that is no record is the end or a refusal
+no_record-of : (q : Read) → ((x : Record) (n : ℕ) → q ≡ Read.Record x n → ⊥) → NoRecord q
+no_record-of (Read.Record r n) h = absurd (h r n refl)
+no_record-of Read.End h = inl refl
+no_record-of (Read.Refused r) h = inr refl
+
 pub returns-in_default : goal.returns-in_default
 returns-in_default c =
     let log = c.args.log.now in
@@ -44,7 +54,7 @@ returns-in_default c =
     let s : Standing = record { second = l.second; registers = l.registers } in
     let q = c.read_at-read in
     ap (λ (j : Judged). record { judged = j; registers = l.registers }) c.judgement_without_record.ensures
-    ∙ sym (from_last log l.at s _ (ap (λ (o : Outcome Found). read_step o l.at s) (sym q.ensures) ∙ step-without l.at s q.result c.in_default.in_default-own.keys2))
+    ∙ sym (from_last log l.at s _ (ap (λ (o : Outcome Found). read_step o l.at s) (sym q.ensures) ∙ step-without l.at s q.result (no_record-of q.result c.in_default.not-Record)))
     ∙ l.invariant
 
 pub stores_sent-requires : goal.stores_sent-requires

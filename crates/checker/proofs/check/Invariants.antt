@@ -22,9 +22,7 @@ use Rattle.checker.proofs.Steps.{step-without, step-refused, step_kept, from_nex
 use Rattle.checker.proofs.check.Given as goal
 
 abbrev pub invariant-loop-entry : goal.invariant-loop-entry
-
-invariant-loop-entry l = check_from l.log l.at (record { l.second = l.second; l.registers = l.registers }) ≡ commands_checked l.log
+invariant-loop-entry l = check_from l.log l.at (record { second = l.second; registers = l.registers }) ≡ commands_checked l.log
 
 abbrev pub decreases-loop-entry : goal.decreases-loop-entry
-
 decreases-loop-entry l = length l.log - l.at

@@ -9,7 +9,7 @@ use borrow.Author.Rules.{rules}
 use borrow.Author.Tests.{lt-leb, ne_eqb}
 use Rattle.refusal.specs.Outcome.{given}
 use Rattle.codes.specs.Code.{value_of, band_value, band_legal}
-use Rattle.codes.proofs.BandCode.{legal-if}
+use Rattle.codes.proofs.Neighbours.{legal-if}
 use Rattle.codes.proofs.expand_band.Statement.{statement}
 use Rattle.codes.proofs.expand_band.Tie as tie
 

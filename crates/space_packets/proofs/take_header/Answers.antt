@@ -1,11 +1,11 @@
 -- `space_packets::take_header` meets its contract: the tests pick the case of the rule. Assumes nothing.
 use mathlib.Core.Path.{◌≡◌, refl, sym, ◌∙◌}
 use mathlib.Core.Bool.{true, false}
-use borrow.Author.Rules.{rules}
 use borrow.Author.Tests.{not-true, not-false}
 use Rattle.space_packets.specs.Packet.{is_stated, is_whole}
 use Rattle.space_packets.specs.Calls.{header_taken}
 use Rattle.space_packets.proofs.take_header.Goals as goal
+use Rattle.space_packets.proofs.take_header.Goals.{After-is_whole}
 
 pub returns-then-not-is_stated : goal.returns-then-not-is_stated
 unfolding header_taken
@@ -13,7 +13,7 @@ returns-then-not-is_stated c =
     let other : is_stated c.args.primary ≡ false = sym c.is_stated.ensures ∙ not-true _ c.if-not-is_stated.true-raw in
     simp other refl
 
-stated : (c : goal.After-is_whole) → is_stated c.args.primary ≡ true
+stated : (c : After-is_whole) → is_stated c.args.primary ≡ true
 stated c = sym c.is_stated.ensures ∙ not-false _ c.if-not-is_stated.false-raw
 
 pub returns-then-not-is_whole : goal.returns-then-not-is_whole

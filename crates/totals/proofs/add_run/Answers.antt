@@ -36,7 +36,7 @@ loop-i-preserved c =
       search rules,
       search rules,
       simp length-set l.invariant.2,
-      rw c.wrapping_add_u64.ensures
+      rw c.wrapping_add_u64.ensures.value
           (run_more a.args.width _ _ a.requires l.i l.row l.invariant.3 c.sum.result (omega arith)
           (c.sum.ensures ∙ part-sum a.args.width _ _ a.requires l.i (omega arith))),
     )
