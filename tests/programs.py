@@ -13,8 +13,8 @@ TOP = os.path.dirname(os.path.dirname(os.path.abspath(__file__)))
 
 
 def built(name):
-    """The path of a program: target/bin/NAME, or the one that the environment's NAME in capitals says."""
-    return os.environ.get(name.upper(), os.path.join(TOP, "target", "bin", name))
+    """The path of a program: crates/NAME/out/NAME, or the one that the environment's NAME in capitals says."""
+    return os.environ.get(name.upper(), os.path.join(TOP, "crates", name, "out", name))
 
 
 def read(*path, mode="r"):
@@ -113,7 +113,7 @@ class Building:
         folder = tempfile.TemporaryDirectory()
         self.addCleanup(folder.cleanup)
         self.top, self.path = os.path.join(folder.name, "top"), os.path.join(folder.name, "path")
-        for part in (os.path.join(self.top, "crates"), os.path.join(self.top, "tools"), self.path):
+        for part in (os.path.join(self.top, "crates", self.name), os.path.join(self.top, "tools"), self.path):
             os.makedirs(part)
         shutil.copy(os.path.join(TOP, self.name), self.top)
         shutil.copy(os.path.join(TOP, "tools", "desk"), os.path.join(self.top, "tools"))
@@ -144,7 +144,7 @@ class Building:
 
     def test_build(self):
         place = (self.name, self.program, self.name)
-        self.toolchain("[ \"$*\" = 'check %s' ] && mkdir -p target/bin && cp '%s' target/bin/%s" % place)
+        self.toolchain("[ \"${PWD##*/} $*\" = '%s run' ] && mkdir -p out && cp '%s' out/%s" % place)
         done = self.wrapper()
         self.assertEqual((done.stdout.decode(), done.returncode), (self.text, 0))
         self.assertIn(b"building", done.stderr)

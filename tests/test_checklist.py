@@ -1,6 +1,6 @@
 """Tests of the program checklist, its wrapper ./checklist and the sample lists.
 
-CHECKLIST names the program where it is not target/bin/checklist.
+CHECKLIST names the program where it is not crates/checklist/out/checklist.
 """
 import os
 import random

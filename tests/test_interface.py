@@ -26,9 +26,9 @@ def read(*path):
 
 def sources():
     """The text of each declaration."""
-    crates = "refusal registers words log model listing bursts interval coarse counts snapshot summed space_packets dfb_refusals"
-    crates += " dfb_board dfb_log dfb_bands dfb_bursts dfb_interval dfb_coarse dfb_checker dfb_walk dfb_counts dfb_snapshot"
-    crates += " dfb_summed dfb_space_packets"
+    crates = "refusal registers words board_log model listing bursts interval coarse counts snapshot summed space_packets dfb_refusals"
+    crates += " dfb_board dfb_log dfb_log_c dfb_bands dfb_bursts dfb_interval dfb_coarse dfb_checker_c dfb_walk dfb_counts"
+    crates += " dfb_snapshot dfb_summed dfb_space_packets"
     texts = {crate: read("crates", crate, "src", "lib.rt") for crate in crates.split()}
     texts.update(header=read("include", "dfb.h"), rust=read("rust", "src", "lib.rs"), python=read("python", "dfb.py"))
     texts.update(cargo=read("rust", "Cargo.toml"))
@@ -183,7 +183,7 @@ def rattle_constants(texts):
     constants["DFB_APID_SPEC"] = rattle_constant(texts["words"], "SPEC")
     constants.update({"DFB_WORDS_" + name: words[apid] for name, apid in APIDS.items() if apid in words})
     constants["DFB_MOST_WORDS"] = max(words.values())
-    constants.update({"DFB_KIND_" + name: rattle_constant(texts["log"], name) for name in ("COMMAND", "WORD", "SECOND_MARK", "TICK")})
+    constants.update({"DFB_KIND_" + name: rattle_constant(texts["board_log"], name) for name in ("COMMAND", "WORD", "SECOND_MARK", "TICK")})
     constants["DFB_KIND_END"] = number(one(r"Read::End => put_numbers\(numbers, at, (\d+), 0, 0\)", texts["dfb_log"]))
     constants["DFB_RECORD"] = number(one(r"numbers\.len\(\) < (\d+)", texts["dfb_log"]))
     constants["DFB_MOST_LISTED"] = rattle_constant(texts["listing"], "MOST")
@@ -554,7 +554,7 @@ class Declarations(unittest.TestCase):
     def test_every_function_is_found(self):
         """The parsers see each function of the library, and each of its parameters."""
         functions = rattle_functions(sources())
-        exports = [line for crate in sources().values() for line in crate.splitlines() if line == "#[no_mangle]"]
+        exports = [line for crate in sources().values() for line in crate.splitlines() if line == "#[unsafe(no_mangle)]"]
         self.assertEqual(len(functions), len(exports))
         self.assertEqual(functions["dfb_tick"], ("u32", [
             ("*mut u16", "state"), ("usize", "state_len"), ("*mut u64", "totals"), ("usize", "totals_len"),

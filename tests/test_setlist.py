@@ -1,6 +1,6 @@
 """Tests of the program setlist, its wrapper ./setlist, the samples, tools/plot and the handbook's examples.
 
-SETLIST names the program where it is not target/bin/setlist.
+SETLIST names the program where it is not crates/setlist/out/setlist.
 """
 import os
 import random

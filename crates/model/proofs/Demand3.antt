@@ -2,40 +2,23 @@
 use Prim.Native.Nat.{ℕ, ◌≤◌, ◌<◌}
 use mathlib.Core.Path.{◌≡◌, sym, ap, ◌∙◌, subst}
 use mathlib.Core.List.{List, [], ◌∷◌, map}
-use lib.ListN.{length}
-use native.Mathlib.Nat.{le_trans, mul-pos, le-div_iff_mul-le, div-mul-le_self}
-use Rattle.codes.specs.Code.{band_code, band_value}
-use Rattle.codes.specs.Bounds.{MeanBounds}
-use Rattle.codes.proofs.BandCode.{band-mean, band-mono}
-use Rattle.bands.specs.Band.{size_exponent}
-use Rattle.bands.proofs.Power.{width-pos}
-use Rattle.settings.specs.Settings.{setting_of, averaged_spectra}
+use native.Mathlib.Nat.{le_trans, le-div_iff_mul-le, div-mul-le_self}
+use Rattle.codes.proofs.BandCode.{band-mono}
 use Rattle.registers.specs.declared.Registers.{Registers}
-use Rattle.settings.proofs.Settings.{averaged-pos}
 use Rattle.model.specs.Reply.{reported}
-use Rattle.model.specs.Report.{divisor, mean}
+use Rattle.model.specs.Report.{divisor}
 use Rattle.model.specs.Reference.{Reference, entry, after, spectra_total}
 use Rattle.model.specs.Calls.{Memory, Call, Typed, perform_all, perform, input_of, out_of, written_by, begin}
 use Rattle.model.specs.Demand.{AllTyped, printed_value, ReportedBand, Agrees, Run, model_of, performed, Reports, NoSmaller, Demand3}
 use Rattle.model.proofs.SpectraTotals.{spectra_total-mono}
 use Rattle.model.proofs.Invariant.{Represents, Good, begun-represents, begun-good}
 use Rattle.model.proofs.Reports.{printed-mean}
-use Rattle.model.proofs.Keeps.{GoodReply, keeps, refused-lt}
+use Rattle.model.proofs.KeepsTick.{GoodReply}
+use Rattle.model.proofs.Keeps.{keeps, refused-lt}
 use Rattle.model.proofs.Simulation.{follows}
-
-divisor-pos : (r : Registers) (b : ℕ) → 0 < divisor r b
-divisor-pos r b = mul-pos (averaged-pos r) (width-pos (size_exponent (setting_of r)) b)
-
--- ---- a report: it is on N spectra, and each printed value is what the code of the mean stands for
-
-record Report (r : Registers) (sp : List (List ℕ)) (out : List ℕ) : Type 0 where
-  count : length sp ≡ averaged_spectra r
-  value : (n b : ℕ) → ReportedBand r n b → printed_value r out n b ≡ band_value (band_code (mean r (spectra_total r sp) n b))
+use Rattle.model.proofs.Printed.{Report, divisor-pos, near}
 
 module _ (r : Registers) (n b : ℕ) (s : ReportedBand r n b) where
-  near : {sp : List (List ℕ)} {out : List ℕ} → Report r sp out → MeanBounds (divisor r b) (spectra_total r sp n b) (printed_value r out n b)
-  near {sp} p = rw (p.value n b s) (band-mean (divisor r b) (spectra_total r sp n b) (divisor-pos r b))
-
   ordered : {sp sp' : List (List ℕ)} {out out' : List ℕ} → Report r sp out → Report r sp' out' → NoSmaller r sp sp' →
       printed_value r out n b ≤ printed_value r out' n b
   ordered {sp} {sp'} p p' h =

@@ -5,10 +5,14 @@ pub mod Sound
 pub mod Reports
 pub mod Legal
 pub mod Invariant
+pub mod KeepsTick
 pub mod Keeps
+pub mod TickSums
 pub mod Simulation
+pub mod Printed
 pub mod Demand3
 pub mod ReportNumbers
 pub mod Commands
 pub mod Ticks
+pub mod Means
 pub mod Witness

@@ -19,6 +19,7 @@ use Rattle.model.specs.Board.{CommandOutcome, TickOutcome, at_next_phase, report
 use Rattle.model.specs.Reference.{Reference, Entry, after_tick, entry_report, entry_running, entry, spectra_total}
 use Rattle.model.specs.Calls.{TotalsPassed, current, wrong, Memory, Call, command, tick, Performed, perform_command, perform_tick, perform, input_of, out_of, answer_of, written_by}
 use Rattle.model.specs.declared.State.{State}
+use Rattle.model.proofs.TickSums.{sums_after}
 use Rattle.model.proofs.Phases.{by_board_cases, entry-cases, next_phase, held-waiting, fresh-sound, next-sound, report-sound}
 use Rattle.model.proofs.Invariant.{held_totals, Represents, Good, memory-sound, memory-length, held-no, held-added}
 use Rattle.model.proofs.Reports.{slot_held, report-ext}
@@ -87,7 +88,7 @@ module _ (m : Reference) (g : Good m) (x : Memory) (h : Represents m x) where
 
     -- the totals with the tick's powers added are those of the spectra with the tick's
     abbrev tick_sums : List ℕ
-    tick_sums = added x.state.registers x.totals ps
+    tick_sums = sums_after x.state x.totals ps
 
     sums : tick_sums ≡ held_totals r sp
     sums = ap₂ (λ k l. added k l ps) h.registers h.totals ∙ held-added r m.spectra ps

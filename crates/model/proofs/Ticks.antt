@@ -9,7 +9,7 @@ use native.Mathlib.Omega.{arith}
 use native.Mathlib.Nat.{add-le-add, add-mul, one-mul}
 use lib.ListN.{length}
 use lib.Dec.{ltb, eqb}
-use borrow.Author.Tests.{lt-ltb, eq-eqb}
+use borrow.Author.Tests.{lt-ltb}
 use Rattle.lists.proofs.Choices.{both, cond-at, cond_both}
 use Rattle.lists.proofs.Tables.{get_d-grid, grid-ext}
 use Rattle.bands.specs.Band.{size_exponent}
@@ -21,11 +21,10 @@ use Rattle.model.specs.Totals.{in_use, width_of, power, band_power, slot, added}
 use Rattle.model.specs.Board.{spectra_held, state_sound, lengths_fit, TickOutcome, running_outcome, tick_outcome}
 use Rattle.model.specs.Calls.{Powers}
 use Rattle.model.specs.Demand.{ReportedBand}
-use Rattle.model.specs.Claims.{DisabledRows, IsReport, OnlyReportsWrite, MeansWithin}
+use Rattle.model.specs.Claims.{DisabledRows, IsReport, OnlyReportsWrite}
 use Rattle.model.specs.declared.State.{State}
 use Rattle.model.proofs.SpectraTotals.{band_power-le}
-use Rattle.model.proofs.Phases.{held-reporting}
-use Rattle.model.proofs.Sound.{Sound, sound-parts}
+use Rattle.model.proofs.Sound.{Sound}
 
 -- ---- 01: rows of disabled processors may hold anything: no answer, state or byte depends on them
 
@@ -62,7 +61,7 @@ in_use-reported : (r : Registers) (n b : ℕ) → ReportedBand r n b → in_use 
 in_use-reported r n b u = rw (u.enabled, lt-ltb b (bands_of r) u.band)
 
 -- what a slot in use has after the tick
-slot-le : (s : State) (totals ps : List ℕ) → Sound s totals → Powers ps → (n b : ℕ) → ReportedBand s.registers n b →
+pub slot-le : (s : State) (totals ps : List ℕ) → Sound s totals → Powers ps → (n b : ℕ) → ReportedBand s.registers n b →
     slot (added s.registers totals ps) n b ≤ (spectra_held s.registers s.phase + 1) * width_of s.registers b * (2 ^ 32 - 1)
 unfolding added
 slot-le s totals ps h k n b u =
@@ -73,7 +72,3 @@ slot-le s totals ps h k n b u =
     let a : slot totals n b ≤ p * w * (2 ^ 32 - 1) = rw (in_use-reported r n b u) at (h.totals n b u.processor l) in
     rw (get_d-grid {A = ℕ} 7 112 (λ n b. slot totals n b + cond (in_use r n b) (band_power r ps n b) 0) 0 n b u.processor l, in_use-reported r n b u, add-mul p 1 w, one-mul w, add-mul (p * w) w (2 ^ 32 - 1))
     (add-le-add a (band_power-le r n b u.band ps k))
-
-pub means-within : MeansWithin
-means-within s totals ps h k run last n b u =
-    rw (held-reporting s.registers run s.phase (eq-eqb _ _ last)) at (slot-le s totals ps (sound-parts s totals h) k n b u)

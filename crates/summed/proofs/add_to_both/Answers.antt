@@ -1,5 +1,5 @@
 -- `summed::add_to_both` meets its contract. The loop: in both runs the totals so far have their powers. Assumes nothing.
-use Rattle.std.proofs.Common.{◌≡◌, ℕ, ◌+◌, ◌-◌, ◌<◌, ◌≤◌, List, ◌++◌, length, get_or, take, drop, set, ℤ, sym, ap, ◌∙◌, ap₂, arith, length-drop, length-set, take-append-drop, get_or-drop, get_or-set_other, get_or-take, drop-set-lt, rules}
+use Rattle.std.proofs.Common.{◌≡◌, ℕ, ◌+◌, ◌<◌, List, ◌++◌, length, get_or, take, drop, set, ℤ, sym, ap, ◌∙◌, ap₂, arith, length-drop, length-set, take-append-drop, get_or-drop, get_or-set_other, get_or-take, drop-set-lt}
 use lib.Seq.{take-set-le, take-set-lt, drop-set-add}
 use Rattle.lists.proofs.Overwriting.{table_none, table-next, table_more}
 use Rattle.summed.proofs.Laws.{sum_at, added_to, added-all, power-is}
@@ -27,18 +27,18 @@ module _ (t l : List ℕ) (pairs : List ℤ) (k : ℕ) (h : k < 1024) (one : tak
       drop-set-add 1024 (set l k x) k y ∙ ap (λ (run : List ℕ). set run k y) (drop-set-lt 1024 l k x h)
       ∙ table_more (sum_at (drop 1024 t) pairs) (drop 1024 t) k y 0 (drop 1024 l) two room is
 
-all-length : (c : goal.Start) → length c.args.totals.now ≡ 2048
-all-length c = omega (arith, length-drop 1024 c.args.totals.now, c.requires.1.run_length)
+all-length : (totals : List ℕ) → length (drop 1024 totals) ≡ 1024 → length totals ≡ 2048
+all-length totals half = omega (arith, length-drop 1024 totals, half)
 
 pub loop-k-init : goal.loop-k-init
-loop-k-init c = (omega arith, all-length c.before, table_none _ _, table_none _ _)
+loop-k-init c = (omega arith, all-length c.args.totals.now c.requires.added_to_2.run_length, table_none _ _, table_none _ _)
 
 pub overflow_add-totals : goal.overflow_add-totals
 overflow_add-totals c =
     let start = c in
     let l = c.loop-k in
     let kept = first_next start.args.totals.now l.totals start.args.pairs.now l.k (omega arith) l.invariant.2 l.invariant.3 in
-    omega (arith, kept, start.requires.0.small l.k (omega arith), c.power-added.ensures.1)
+    omega (arith, kept, start.requires.added_to.small l.k (omega arith), c.power-added.ensures.1)
 
 pub overflow_add-totals-in-loop-k-2 : goal.overflow_add-totals-in-loop-k-2
 overflow_add-totals-in-loop-k-2 c =
@@ -46,7 +46,7 @@ overflow_add-totals-in-loop-k-2 c =
     let l = c.loop-k in
     let kept = second-next start.args.totals.now l.totals start.args.pairs.now l.k (omega arith) l.invariant.2 l.invariant.3
     (get_or l.totals l.k 0 + c.power-added.result) in
-    omega (arith, kept, start.requires.1.small l.k (omega arith), c.power-added.ensures.1)
+    omega (arith, kept, start.requires.added_to_2.small l.k (omega arith), c.power-added.ensures.1)
 
 pub loop-k-preserved : goal.loop-k-preserved
 loop-k-preserved c =
@@ -70,8 +70,8 @@ returns c =
     let l = c.loop-k in
     let all : l.k ≡ 1024 = omega arith in
     sym (take-append-drop 1024 l.totals)
-    ∙ ap₂ ◌++◌ (l.invariant.2 ∙ added-all l.k (take 1024 t) pairs all start.requires.0.run_length)
-    (l.invariant.3 ∙ added-all l.k (drop 1024 t) pairs all start.requires.1.run_length)
+    ∙ ap₂ ◌++◌ (l.invariant.2 ∙ added-all l.k (take 1024 t) pairs all start.requires.added_to.run_length)
+    (l.invariant.3 ∙ added-all l.k (drop 1024 t) pairs all start.requires.added_to_2.run_length)
 
 pub bounds-totals-k-in-loop-k-2 : goal.bounds-totals-k-in-loop-k-2
 bounds-totals-k-in-loop-k-2 c = simp length-set (omega arith)
@@ -80,4 +80,4 @@ pub bounds-totals-k-in-loop-k-3 : goal.bounds-totals-k-in-loop-k-3
 bounds-totals-k-in-loop-k-3 c = simp length-set (omega arith)
 
 pub shape_of-totals : goal.shape_of-totals
-shape_of-totals c = c.loop-k.invariant.1 ∙ sym (all-length c.before.before.before)
+shape_of-totals c = c.loop-k.invariant.1 ∙ sym (all-length c.args.totals.now c.requires.added_to_2.run_length)

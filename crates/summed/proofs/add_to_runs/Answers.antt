@@ -1,5 +1,5 @@
 -- `summed::add_to_runs` meets its contract: the first 1,024 totals are the first mask's run, and the others the second's. Assumes nothing.
-use Rattle.std.proofs.Common.{◌≡◌, ℕ, ◌+◌, Bool, true, false, cond, List, ◌++◌, take, drop, ℤ, sym, ap, ◌∙◌, arith, length-drop, take-append-drop, length-take-le, get_or-drop, get_or-take, rules}
+use Rattle.std.proofs.Common.{◌≡◌, ℕ, ◌+◌, Bool, true, false, cond, List, ◌++◌, take, drop, ℤ, sym, ap, ◌∙◌, arith, length-drop, take-append-drop, length-take-le, get_or-drop, get_or-take}
 use Rattle.summed.specs.declared.SumState.{SumState}
 use Rattle.summed.specs.Component.{has_component}
 use Rattle.summed.specs.Totals.{added_run}
@@ -25,23 +25,19 @@ second-ready s totals pairs r =
     }
 
 -- the totals that are due, by what the tests of the two masks gave
-due : (c : goal.After-has_component) (x y : Bool) → c.has_component.result ≡ x → c.has_component-is_second.result ≡ y →
-    let a = c.args in
-    totals_with a.state a.pairs.now a.totals.now
-    ≡ cond x (added_run (take 1024 a.totals.now) a.pairs.now) (take 1024 a.totals.now)
-    ++ cond y (added_run (drop 1024 a.totals.now) a.pairs.now) (drop 1024 a.totals.now)
+due : (s : SumState) (totals : List ℕ) (pairs : List ℤ) (x y : Bool) → has_component s.first s.next ≡ x → has_component s.second s.next ≡ y →
+    totals_with s pairs totals ≡ cond x (added_run (take 1024 totals) pairs) (take 1024 totals) ++ cond y (added_run (drop 1024 totals) pairs) (drop 1024 totals)
 unfolding totals_with
-due c x y e f =
-    let s = c.args.state in
-    let one : has_component s.first s.next ≡ x = sym c.has_component.ensures ∙ e in
-    let two : has_component s.second s.next ≡ y = sym c.has_component-is_second.ensures ∙ f in
-    rw (one, two)
+due s totals pairs x y one two = rw (one, two)
 
 pub add_to_both-requires : goal.add_to_both-requires
 add_to_both-requires c =
     let start = c in
     let a = start.args in
-    (first-ready a.state a.totals.now a.pairs.now start.requires, second-ready a.state a.totals.now a.pairs.now start.requires)
+    record {
+      added_to = first-ready a.state a.totals.now a.pairs.now start.requires;
+      added_to_2 = second-ready a.state a.totals.now a.pairs.now start.requires;
+    }
 
 pub slice_bounds-add_powers-end-else-is_second : goal.slice_bounds-add_powers-end-else-is_second
 slice_bounds-add_powers-end-else-is_second c = sym (length-take-le 1024 c.args.totals.now (omega arith))
@@ -60,26 +56,25 @@ add_powers-requires-then-is_second-2 c =
 
 pub returns-then-is_second : goal.returns-then-is_second
 returns-then-is_second c =
-    let tested = c.before.before.before.before.before.before in
-    c.add_to_both.ensures ∙ sym (due tested true true c.if-has_component.true c.if-is_second.true)
+    let a = c.args in
+    c.add_to_both.ensures ∙ sym (due a.state a.totals.now a.pairs.now true true (sym c.has_component.ensures ∙ c.if-has_component.true) (sym c.has_component-is_second.ensures ∙ c.if-is_second.true))
 
 pub returns-else-is_second : goal.returns-else-is_second
 returns-else-is_second c =
-    let tested = c.before.before.before.before.before.before in
-    let l = tested.args.totals.now in
+    let a = c.args in
+    let l = a.totals.now in
     ap (λ (run : List ℕ). run ++ drop 1024 l) c.add_powers.ensures
-    ∙ sym (due tested true false c.if-has_component.true c.if-is_second.false)
+    ∙ sym (due a.state a.totals.now a.pairs.now true false (sym c.has_component.ensures ∙ c.if-has_component.true) (sym c.has_component-is_second.ensures ∙ c.if-is_second.false))
 
 pub returns-then-is_second-2 : goal.returns-then-is_second-2
 returns-then-is_second-2 c =
-    let tested = c.before.before.before.before.before.before in
-    let a = tested.args in
+    let a = c.args in
     let l = a.totals.now in
     let second : c.add_powers-then-is_second-2.new.run ≡ added_run (drop 1024 l) a.pairs.now = rw (from_on 1024 l) at c.add_powers-then-is_second-2.ensures in
     behind-put 1024 c.add_powers-then-is_second-2.new.run l ∙ ap (λ (run : List ℕ). take 1024 l ++ run) second
-    ∙ sym (due tested false true c.if-has_component.false c.if-is_second-2.true)
+    ∙ sym (due a.state a.totals.now a.pairs.now false true (sym c.has_component.ensures ∙ c.if-has_component.false) (sym c.has_component-is_second.ensures ∙ c.if-is_second-2.true))
 
 pub returns-else-is_second-2 : goal.returns-else-is_second-2
 returns-else-is_second-2 c =
-    let tested = c.before.before in
-    sym (due tested false false c.if-has_component.false c.if-is_second-2.false ∙ take-append-drop 1024 tested.args.totals.now)
+    let a = c.args in
+    sym (due a.state a.totals.now a.pairs.now false false (sym c.has_component.ensures ∙ c.if-has_component.false) (sym c.has_component-is_second.ensures ∙ c.if-is_second-2.false) ∙ take-append-drop 1024 a.totals.now)
