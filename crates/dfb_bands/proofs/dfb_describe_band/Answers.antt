@@ -2,52 +2,36 @@
 use mathlib.Core.Path.{sym, ap, ◌∙◌}
 use Prim.Native.Nat.{ℕ}
 use native.Mathlib.Omega.{arith}
-use borrow.Author.Rules.{rules}
 use lib.ListN.{length-set}
 use Rattle.bands.specs.Answer.{band_description_outcome}
 use Rattle.dfb_refusals.specs.Numbers.{above16}
 use Rattle.dfb_bands.specs.Values.{three_values, band_written}
 use Rattle.dfb_refusals.proofs.Numbers.{numbered}
 use Rattle.dfb_refusals.proofs.Values.{values-short, values-stored, values-of}
-use Rattle.dfb_bands.proofs.dfb_describe_band.Statement.{statement}
-use Rattle.dfb_bands.proofs.dfb_describe_band.Tie as tie
+use Rattle.dfb_bands.proofs.dfb_describe_band.Goals as goal
 
-returns : tie.Need-returns-then-three-lt3
+pub returns-then-three-lt3 : goal.returns-then-three-lt3
 unfolding band_written
-returns c =
+returns-then-three-lt3 c =
     let list = c.args.three.now in
     let v = c.in-Described.description in
     let values = sym (ap band_description_outcome c.in-Described.is) ∙ c.describe_band.ensures.0 in
     values-of above16 three_values list values (numbered above16 _ c.above_16.ensures (values-short (three_values v) list (omega arith)))
 
-returns-2 : tie.Need-returns-else-three-lt3
+pub returns-else-three-lt3 : goal.returns-else-three-lt3
 unfolding band_written
-returns-2 c =
+returns-else-three-lt3 c =
     let list = c.args.three.now in
     let v = c.in-Described.description in
     let values = sym (ap band_description_outcome c.in-Described.is) ∙ c.describe_band.ensures.0 in
     values-of above16 three_values list values (values-stored (three_values v) list above16 (omega arith))
 
-returns-3 : tie.Need-returns-in-Refused
+pub returns-in-Refused : goal.returns-in-Refused
 unfolding band_written
-returns-3 c =
+returns-in-Refused c =
     let list = c.args.three.now in
     let values = sym (ap band_description_outcome c.in-Refused.is) ∙ c.describe_band.ensures.0 in
     values-of above16 three_values list values (ap (λ (n : ℕ). record { answer = n; buffer = list }) c.above_16-in-Refused.ensures)
 
-pub dfb_describe_band_spec : {M : Type 1} → statement M
-dfb_describe_band_spec =
-    tie.close
-    (tie.spec
-    (λ c κs. search rules)
-    (λ c. search rules)
-    (λ c κs. search rules)
-    returns
-    (λ c. search rules)
-    (λ c. simp length-set (omega arith))
-    (λ c. search rules)
-    (λ c. search rules)
-    (λ c κs. search rules)
-    (λ c. search rules)
-    returns-2
-    returns-3)
+pub bounds-three-1 : goal.bounds-three-1
+bounds-three-1 c = simp length-set (omega arith)
