@@ -45,7 +45,7 @@ extern "C" {
 enum dfb_refusal_number {
     DFB_REFUSAL_UNKNOWN_COMMAND = 1,         /* the command ID is outside 0x30 to 0x36 */
     DFB_REFUSAL_WRONG_LENGTH = 2,            /* a list has a wrong length, an output is too small, or a place or number does not fit */
-    DFB_REFUSAL_UNSOUND_STATE = 3,           /* the state is not one that the board, the slots, the counting writer, a walk or a sum can have left */
+    DFB_REFUSAL_UNSOUND_STATE = 3,           /* the state is not one that the board, the slots, the counting writer or a sum can have left */
     DFB_REFUSAL_UNKNOWN_APID = 4,            /* the APID is none of the seven, or 0x4E where a waveform's is wanted */
     DFB_REFUSAL_INCOMPLETE_SET = 5,          /* the words are not exactly one set */
     DFB_REFUSAL_NO_PROCESSOR_ENABLED = 6,    /* a SPEC word with no processor enabled */
@@ -79,7 +79,7 @@ static inline const char *dfb_meaning(unsigned refusal)
     switch (refusal) {
     case DFB_REFUSAL_UNKNOWN_COMMAND: return "the command ID is outside 0x30 to 0x36";
     case DFB_REFUSAL_WRONG_LENGTH: return "a list has a wrong length, an output is too small, or a place or number does not fit";
-    case DFB_REFUSAL_UNSOUND_STATE: return "the state is not one that the board, the slots, the counting writer, a walk or a sum can have left";
+    case DFB_REFUSAL_UNSOUND_STATE: return "the state is not one that the board, the slots, the counting writer or a sum can have left";
     case DFB_REFUSAL_UNKNOWN_APID: return "the APID is none of the seven, or 0x4E where a waveform's is wanted";
     case DFB_REFUSAL_INCOMPLETE_SET: return "the words are not exactly one set";
     case DFB_REFUSAL_NO_PROCESSOR_ENABLED: return "a SPEC word with no processor enabled";

@@ -28,7 +28,7 @@ FREE, HELD, SENDING = 0, 1, 2
 MEANINGS = {
     1: "the command ID is outside 0x30 to 0x36",
     2: "a list has a wrong length, an output is too small, or a place or number does not fit",
-    3: "the state is not one that the board, the slots, the counting writer, a walk or a sum can have left",
+    3: "the state is not one that the board, the slots, the counting writer or a sum can have left",
     4: "the APID is none of the seven, or 0x4E where a waveform's is wanted",
     5: "the words are not exactly one set",
     6: "a SPEC word with no processor enabled",

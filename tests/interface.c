@@ -2296,7 +2296,7 @@ static void test_meanings(void)
         found += (size_t)is_refusal;
     }
     CHECK(strcmp(dfb_meaning(DFB_REFUSAL_ALREADY_SENDING), "a slot is already sending") == 0);
-    CHECK(strcmp(dfb_meaning(3), "the state is not one that the board, the slots, the counting writer, a walk or a sum can have left") == 0);
+    CHECK(strcmp(dfb_meaning(3), "the state is not one that the board, the slots, the counting writer or a sum can have left") == 0);
     CHECK(strcmp(dfb_meaning(17), "the component is not the next one") == 0);
     CHECK(strcmp(dfb_meaning(14), "the packet's SID is not 33 or its auxiliary length is not 8") == 0);
     CHECK(strcmp(dfb_meaning(15), "the total of packets is over 3072, or the packet number is not below the total") == 0);

@@ -114,7 +114,7 @@ impl Refusal {
         match self {
             Refusal::UnknownCommand => "the command ID is outside 0x30 to 0x36",
             Refusal::WrongLength => "a list has a wrong length, an output is too small, or a place or number does not fit",
-            Refusal::UnsoundState => "the state is not one that the board, the slots, the counting writer, a walk or a sum can have left",
+            Refusal::UnsoundState => "the state is not one that the board, the slots, the counting writer or a sum can have left",
             Refusal::UnknownApid => "the APID is none of the seven, or 0x4E where a waveform's is wanted",
             Refusal::IncompleteSet => "the words are not exactly one set",
             Refusal::NoProcessorEnabled => "a SPEC word with no processor enabled",

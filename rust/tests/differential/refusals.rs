@@ -4,7 +4,7 @@ use dfb::{Refusal, RefusedAt};
 const REFUSALS: [(Refusal, u8, &str); 28] = [
     (Refusal::UnknownCommand, 1, "the command ID is outside 0x30 to 0x36"),
     (Refusal::WrongLength, 2, "a list has a wrong length, an output is too small, or a place or number does not fit"),
-    (Refusal::UnsoundState, 3, "the state is not one that the board, the slots, the counting writer, a walk or a sum can have left"),
+    (Refusal::UnsoundState, 3, "the state is not one that the board, the slots, the counting writer or a sum can have left"),
     (Refusal::UnknownApid, 4, "the APID is none of the seven, or 0x4E where a waveform's is wanted"),
     (Refusal::IncompleteSet, 5, "the words are not exactly one set"),
     (Refusal::NoProcessorEnabled, 6, "a SPEC word with no processor enabled"),
