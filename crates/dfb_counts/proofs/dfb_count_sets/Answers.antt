@@ -2,7 +2,6 @@
 use Prim.Native.Nat.{ℕ, ◌+◌, ◌%◌, ◌^◌}
 use mathlib.Core.Path.{◌≡◌, ap, sym, ◌∙◌}
 use native.Mathlib.Omega.{arith}
-use borrow.Author.Rules.{rules}
 use Rattle.refusal.specs.Number.{number_of}
 use Rattle.walk.specs.Outcomes.{end, refused_at}
 use Rattle.walk.proofs.Claims.{walk-offsets}
@@ -11,47 +10,30 @@ use Rattle.counts.specs.Counts.{ending_outcome, SetsCounted, sets_counted}
 use Rattle.dfb_refusals.specs.Numbers.{above63, with_offset}
 use Rattle.dfb_counts.specs.Calls.{lists_left, tally_put, count_number}
 use Rattle.dfb_counts.proofs.Calls.{too_long, ending-answered}
-use Rattle.dfb_counts.proofs.dfb_count_sets.Statement.{statement}
-use Rattle.dfb_counts.proofs.dfb_count_sets.Tie as tie
+use Rattle.dfb_counts.proofs.dfb_count_sets.Goals as goal
 
-returns : tie.Need-returns-then-log-ge-TOO_LONG
-returns c =
+pub returns-then-log-ge-TOO_LONG : goal.returns-then-log-ge-TOO_LONG
+returns-then-log-ge-TOO_LONG c =
     let a = c.args in
     ap (λ (n : ℕ). lists_left n a.counts.now a.registers.now) c.above_63.ensures
-    ∙ ap count_number (too_long a.log.now a.counts.now a.registers.now (omega (arith, c.if-log-ge-TOO_LONG.true)))
+    ∙ ap count_number (too_long a.log.now a.counts.now a.registers.now (omega arith))
 
-returns-2 : tie.Need-returns-in-End
-returns-2 c =
+pub returns-in-End : goal.returns-in-End
+returns-in-End c =
     let a = c.args in
     let s = c.count_sets-count.ensures in
     let e = sym (ap (λ (x : SetsCounted). x.ending) s) ∙ ap ending_outcome c.in-End.is in
     c.put_counted.ensures
     ∙ ap (λ (t : Tally). count_number (tally_put t a.counts.now a.registers.now)) (ap (λ (x : SetsCounted). x.tally) s)
-    ∙ sym (ap count_number (ending-answered a.log.now a.counts.now a.registers.now (end _) (omega (arith, c.if-log-ge-TOO_LONG.false)) e))
+    ∙ sym (ap count_number (ending-answered a.log.now a.counts.now a.registers.now (end _) (omega arith) e))
 
-returns-3 : tie.Need-returns-in-Refused
+pub returns-in-Refused : goal.returns-in-Refused
 unfolding sets_counted
-returns-3 c =
+returns-in-Refused c =
     let a = c.args in
     let n = number_of c.in-Refused.refusal in
     let offset = c.in-Refused.offset in
     let e = sym (ap (λ (x : SetsCounted). x.ending) c.count_sets-count.ensures) ∙ ap ending_outcome c.in-Refused.is in
-    let whole : offset % 2 ^ 55 ≡ offset = omega (arith, walk-offsets a.log.now n offset e, c.if-log-ge-TOO_LONG.false) in
+    let whole : offset % 2 ^ 55 ≡ offset = omega (arith, walk-offsets a.log.now n offset e) in
     ap (λ (k : ℕ). lists_left k a.counts.now a.registers.now) (c.above_63_at.ensures ∙ ap (λ (k : ℕ). above63 + with_offset n k) whole)
-    ∙ sym (ap count_number (ending-answered a.log.now a.counts.now a.registers.now (refused_at n offset) (omega (arith, c.if-log-ge-TOO_LONG.false)) e))
-
-pub dfb_count_sets_spec : {M : Type 1} → statement M
-dfb_count_sets_spec =
-    tie.close
-    (tie.spec
-    (λ c κs. search rules)
-    returns
-    (λ c κs. search rules)
-    (λ c. search rules)
-    (λ c κs. search rules)
-    (λ c. search rules)
-    (λ c κs. search rules)
-    (λ c. search rules)
-    (λ c. search rules)
-    returns-2
-    returns-3)
+    ∙ sym (ap count_number (ending-answered a.log.now a.counts.now a.registers.now (refused_at n offset) (omega arith) e))
