@@ -6,7 +6,6 @@ use native.Mathlib.Omega.{arith}
 use lib.Dec.{leb}
 use lib.IntN.{pos}
 use lib.Ieee.{binary32, div, of_int, of_bits}
-use borrow.Author.Rules.{rules}
 use borrow.Author.Tests.{le-leb, lt-leb}
 use Rattle.lists.specs.Tables.{tabulate}
 use Rattle.lists.proofs.Tables.{tabulate-agree}
@@ -15,8 +14,7 @@ use Rattle.bands.specs.declared.Cadence.{Cadence}
 use Rattle.bands.specs.Answer.{whole, CadenceValue, rate, period, cadence_outcome, cadence_of}
 use Rattle.bands.specs.Exact.{ExactCadence}
 use Rattle.bands.proofs.Floats.{exact-cadence}
-use Rattle.bands.proofs.cadence_of.Statement.{statement}
-use Rattle.bands.proofs.cadence_of.Tie as tie
+use Rattle.bands.proofs.cadence_of.Goals as goal
 
 -- C as the code shifts it
 abbrev ticks : ℕ → ℕ
@@ -39,31 +37,19 @@ right = tabulate-agree 11 computed cadence_of refl
 answered : (choice : ℕ) (r : Cadence) → cadence_outcome r ≡ cadence_of choice → (cadence_outcome r ≡ cadence_of choice) × ExactCadence choice r
 answered choice r is = (is, exact-cadence choice r is)
 
-returns : tie.Need-returns-then-choice-gt-NCAD_LIMIT
-returns c = answered _ _ (simp (lt-leb c.args.choice 10 (omega arith)))
+pub returns-then-choice-gt-NCAD_LIMIT : goal.returns-then-choice-gt-NCAD_LIMIT
+returns-then-choice-gt-NCAD_LIMIT c = answered _ _ (simp (lt-leb c.args.choice 10 (omega arith)))
 
-shl-ticks : tie.Need-overflow_shl-ticks
-shl-ticks c = search rules
-
-int-to-float-t7 : tie.Need-int_to_float-result
-int-to-float-t7 c = search rules
-
-int-to-float-t9 : tie.Need-int_to_float-result-else-ticks-le8
-int-to-float-t9 c = search rules
-
-returns-2 : tie.Need-returns-then-ticks-le8
+pub returns-then-ticks-le8 : goal.returns-then-ticks-le8
 unfolding computed
-returns-2 c =
+returns-then-ticks-le8 c =
     let choice = c.args.choice in
     let same : computed choice ≡ rate_computed choice = rw (le-leb (ticks choice) 8 (omega arith)) in
     answered choice _ (sym same ∙ right choice (omega arith))
 
-returns-3 : tie.Need-returns-else-ticks-le8
+pub returns-else-ticks-le8 : goal.returns-else-ticks-le8
 unfolding computed
-returns-3 c =
+returns-else-ticks-le8 c =
     let choice = c.args.choice in
     let same : computed choice ≡ period_computed choice = rw (lt-leb (ticks choice) 8 (omega arith)) in
     answered choice _ (sym same ∙ right choice (omega arith))
-
-pub cadence_of_spec : {M : Type 1} → statement M
-cadence_of_spec = tie.close (tie.spec returns shl-ticks int-to-float-t7 int-to-float-t9 returns-2 returns-3)
