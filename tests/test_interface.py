@@ -15,6 +15,7 @@ from c_program import C99, DIST, TOP, build, run
 # 01, "Words and sets".
 APIDS = {"E_SVY": 0x43, "V_SVY": 0x44, "MAG_SVY": 0x45, "E_B1": 0x46, "V_B1": 0x47, "SCM_B1": 0x48, "SPEC": 0x4E}
 # The numbers of a snapshot's header that have a shorter name in the Rattle sources.
+ITEM_NUMBERS = {"KIND": "Kind::Command", "OFFSET": "offset", "BYTES": "bytes", "A": "c.id", "B": "c.stored"}
 SNAPSHOT_NAMES = {"coarse": "coarse_difference", "fine": "fine_time", "switches8": "switches_8", "switches12": "switches_12",
                   "mask": "component_mask", "total": "total_packets", "snapshot": "snapshot_number", "number": "packet_number"}
 
@@ -164,7 +165,7 @@ def rattle_constant(text, name):
 
 
 def rattle_refusals(text):
-    return {capitals(name): int(value) for name, value in re.findall(r"Refusal::(\w+) => (\d+),", text)}
+    return {capitals(name): int(value) for name, value in re.findall(r"^    (\w+) = (\d+),", one(r"(?s)pub enum Refusal \{(.*?)\n\}", text), re.MULTILINE)}
 
 
 def rattle_constants(texts):
@@ -176,36 +177,38 @@ def rattle_constants(texts):
     constants["DFB_REFUSED_16"] = number(one(r"(\w+) \+ refusal::number\(refusal\) as u32", texts["dfb_refusals"]))
     constants["DFB_REFUSED_63"] = number(one(r"(0x\w+) \+ refusal::number\(refusal\) as u64", texts["dfb_refusals"]))
     for name in ("Idle", "Collected", "Waiting"):
-        constants["DFB_" + name.upper()] = number(one(r"TickAnswer::%s => (\w+)," % name, texts["dfb_board"]))
-    constants["DFB_REPORTED"] = number(one(r"TickAnswer::Reported\(words\) => (\w+) \+ words as u32 \* 65536 \+ reports", texts["dfb_board"]))
-    words = {int(apid, 16): int(count) for apid, count in re.findall(r"(0x\w+) => SetWords::Count\((\d+)\)", texts["words"])}
+        constants["DFB_" + name.upper()] = number(one(r"TickAnswer::%s\) => (\w+)," % name, texts["dfb_board"]))
+    constants["DFB_REPORTED"] = number(one(r"TickAnswer::Reported\(words\)\) => (\w+) \+ words as u32 \* 65536 \+ reports", texts["dfb_board"]))
+    words = {int(apid, 16): int(count) for apid, count in re.findall(r"(0x\w+) => Ok\((\d+)\)", texts["words"])}
     constants.update({"DFB_APID_" + name: apid for name, apid in APIDS.items() if apid in words})
     constants["DFB_APID_SPEC"] = rattle_constant(texts["words"], "SPEC")
     constants.update({"DFB_WORDS_" + name: words[apid] for name, apid in APIDS.items() if apid in words})
     constants["DFB_MOST_WORDS"] = max(words.values())
-    constants.update({"DFB_KIND_" + name: rattle_constant(texts["board_log"], name) for name in ("COMMAND", "WORD", "SECOND_MARK", "TICK")})
-    constants["DFB_KIND_END"] = number(one(r"Read::End => put_numbers\(numbers, at, (\d+), 0, 0\)", texts["dfb_log"]))
+    kinds = re.findall(r"^    (\w+) = (\d+),", one(r"(?s)pub enum Kind \{(.*?)\n\}", texts["board_log"]), re.MULTILINE)
+    constants.update({"DFB_KIND_" + capitals(name): int(value) for name, value in kinds})
+    constants["DFB_KIND_END"] = number(one(r"None => put_numbers\(numbers, at, \[(\d+), 0, 0\]\)", texts["dfb_log"]))
     constants["DFB_RECORD"] = number(one(r"numbers\.len\(\) < (\d+)", texts["dfb_log"]))
     constants["DFB_MOST_LISTED"] = rattle_constant(texts["listing"], "MOST")
     constants["DFB_REGISTERS"] = rattle_constant(texts["registers"], "COUNT")
     constants.update({"DFB_" + name: rattle_constant(texts["dfb_walk"], name) for name in ("WALK", "ITEM")})
-    places = re.findall(r"list\[(\d)\] = (\w+);", texts["dfb_walk"])
-    constants.update({"DFB_ITEM_" + name.upper(): int(place) for place, name in places})
-    for name, source in (("PLACE", "after.at"), ("RECORDS", "after.records"), ("REGISTERS", r"registers.value\[n\]")):
-        constants["DFB_WALK_" + name] = number(one(r"walk\[(\d)(?: \+ n)?\] = %s as u64;" % source, texts["dfb_walk"]))
-    kinds = dict(re.findall(r"Item::(\w+)(?:\(_\))? => ([1-9]),", texts["dfb_walk"]))
+    numbers = re.findall(r"Item::(\w+)[^=\[\]]*?(?:\| Item::(\w+)[^=\[\]]*)? => \[([^\]]*)\]", texts["dfb_walk"])
+    lists = {variant: [part.split(" as ")[0].strip() for part in text.split(",") if part.strip()] for first, second, text in numbers for variant in (first, second) if variant}
+    constants.update({"DFB_ITEM_" + name: lists["Command"].index(source) for name, source in ITEM_NUMBERS.items()})
+    for name, source in (("PLACE", "after.at"), ("RECORDS", "after.records")):
+        constants["DFB_WALK_" + name] = number(one(r"walk\[(\d)\] = %s as u64;" % source, texts["dfb_walk"]))
+    constants["DFB_WALK_REGISTERS"] = number(one(r"walk\[(\d)\.\.\]\.copy_from_slice\(&after\.registers", texts["dfb_walk"]))
     names = {"COMMAND": "Command", "SET": "Spectra", "SECOND_MARK": "SecondMark", "TICK": "Tick"}
-    constants.update({"DFB_ITEM_KIND_" + name: int(kinds[variant]) for name, variant in names.items()})
-    constants["DFB_ITEM_KIND_END"] = number(one(r"Step::End\(records\) => put_numbers\(item, (\d), walk\[0\], 0, records", texts["dfb_walk"]))
+    constants.update({"DFB_ITEM_KIND_" + name: int(dict(kinds)[lists[variant][0].replace("Kind::", "")]) for name, variant in names.items()})
+    constants["DFB_ITEM_KIND_END"] = number(one(r"Step::End\(records\) => put_numbers\(item, \[(\d), at, 0, records", texts["dfb_walk"]))
     constants["DFB_COUNTS"] = rattle_constant(texts["counts"], "LENGTH")
     for name in ("Rate", "Period"):
-        constants["DFB_" + name.upper()] = number(one(r"Cadence::%s\(\w+\) => put_value\(value, \w+, (\d+)\)" % name, texts["dfb_bands"]))
+        constants["DFB_" + name.upper()] = number(one(r"Cadence::%s\(\w+\)\) => put_values\(value, &\[\w+\], (\d+)\)" % name, texts["dfb_bands"]))
     constants.update({"DFB_" + name: rattle_constant(texts["coarse"], name) for name in ("FINE_TOTALS", "MOST_TOTAL")})
     constants["DFB_MOST_SLOTS"] = rattle_constant(texts["bursts"], "MOST_SLOTS")
     constants.update({"DFB_SLOT_" + name: rattle_constant(texts["dfb_bursts"], name) for name in ("FREE", "HELD", "SENDING")})
     constants["DFB_MOST_BLOCKS"] = rattle_constant(texts["interval"], "MOST_BLOCKS")
-    places = re.findall(r"header\[(\d+)\] = from\.(\w+)", texts["dfb_snapshot"])
-    constants.update({"DFB_SNAPSHOT_" + SNAPSHOT_NAMES.get(name, name).upper(): int(place) for place, name in places})
+    places = enumerate(re.findall(r"from\.(\w+)", one(r"copy_from_slice\(&\[([^\]]*)\]\)", texts["dfb_snapshot"])))
+    constants.update({"DFB_SNAPSHOT_" + SNAPSHOT_NAMES.get(name, name).upper(): place for place, name in places})
     constants["DFB_SNAPSHOT_HEADER"] = rattle_constant(texts["dfb_snapshot"], "HEADER")
     samples = 8 * number(one(r"(\d+) \* u8::count_ones\(mask\)", texts["snapshot"]))
     constants["DFB_MOST_SNAPSHOT_SAMPLES"] = samples

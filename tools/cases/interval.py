@@ -50,13 +50,9 @@ def choose(index, bonus, limit):
     return "%05d %05d" % (min(chosen), max(chosen))
 
 
-text, functions, calls = "", "", ""
-for n, (comment, index, bonus, limit) in enumerate(cases, 1):
-    kind = ": [u32; 0]" if not index else ""
-    values = ", ".join("%du32" % c if k == 0 else str(c) for k, c in enumerate(index))
-    head = "// %s\nfn case_%d<W: Write>(writer: &mut W) -> io::Result<()> {\n" % (comment, n)
-    functions += head + "    let index%s = [%s];\n    show(writer, &index, %d, %d)\n}\n\n" % (kind, values, bonus, limit)
-    calls += "    case_%d(&mut writer)?;\n" % n
+text, calls = "", ""
+for comment, index, bonus, limit in cases:
+    calls += "    // %s\n    show(&mut writer, &[%s], %d, %d)?;\n" % (comment, ", ".join(map(str, index)), bonus, limit)
     text += choose(index, bonus, limit) + "\n"
 for place, top, bonus, limit in long_cases:
     index = [7] * 16000
@@ -71,5 +67,5 @@ program = open(main, encoding="utf8").read()
 mark = "// ---- cases\n"
 head = program[:program.index(mark)] + mark
 begin = "fn main(rt: HostRuntime) -> io::Result<()> {\n    let mut writer = BufWriter::new(rt.alloc(), io::writer(&rt))?;\n"
-open(main, "w", encoding="utf8").write(head + "\n" + functions + begin + calls + "    writer.flush()\n}\n")
+open(main, "w", encoding="utf8").write(head + "\n" + begin + calls + "    writer.flush()\n}\n")
 open(os.path.join(crate, "stdout"), "w", encoding="utf8").write(text)

@@ -1,4 +1,6 @@
 -- The floats of the answers are exact: `HasValue x false a c` says that x is the positive number a / c, with nothing rounded. Assumes nothing.
+use Rattle.refusal.specs.declared.Refusal.{Refusal}
+use Rattle.std.specs.Prelude.{Result}
 use mathlib.Core.Path.{◌≡◌, refl, sym, ap, ◌∙◌, subst}
 use mathlib.Core.Bool.{Bool, true, false, cond}
 use Prim.Native.Nat.{ℕ, ◌+◌, ◌-◌, ◌*◌, ◌/◌, ◌^◌, ◌≤◌, ◌<◌}
@@ -12,14 +14,14 @@ use lib.Ieee.Back.{round_whole}
 use borrow.Author.Tests.{leb-true, leb-false}
 use Rattle.lists.specs.Tables.{tabulate}
 use Rattle.lists.proofs.Tables.{tabulate-agree}
-use Rattle.refusal.specs.Outcome.{given, refused}
+use Rattle.refusal.specs.Outcome.{given, refused, answer_outcome}
 use Rattle.refusal.proofs.Outcomes.{given-of}
 use Rattle.bands.specs.declared.Description.{Description}
-use Rattle.bands.specs.declared.BandDescription.{BandDescription}
 use Rattle.bands.specs.declared.Cadence.{Cadence}
+use Rattle.bands.specs.declared.Cadence.TheVariants.{Rate, Period}
 use Rattle.bands.specs.Band.{size_exponent, band_start, band_width, has_band}
 use Rattle.registers.specs.Store.{band_count}
-use Rattle.bands.specs.Answer.{whole, described, band_description_outcome, band_described, rate, period, cadence_outcome, cadence_of}
+use Rattle.bands.specs.Answer.{whole, described, band_described, cadence_of}
 use Rattle.bands.specs.Exact.{ExactHertz, ExactDescription, ExactCadence}
 use Rattle.bands.proofs.Settings.{range, known_of}
 
@@ -52,12 +54,12 @@ described-exact setting b h =
     }
 
 -- an answer that meets the rule is exact
-pub exact-description : (setting b : ℕ) (r : BandDescription) → band_description_outcome r ≡ band_described setting b → ExactDescription setting b r
+pub exact-description : (setting b : ℕ) (r : Result Description Refusal) → answer_outcome r ≡ band_described setting b → ExactDescription setting b r
 exact-description setting b r is =
     record {
       described =
           λ d e.
-          let known = given-of (has_band setting b) (described setting b) d 12 (sym (ap band_description_outcome e) ∙ is) in
+          let known = given-of (has_band setting b) (described setting b) d 12 (sym (ap answer_outcome e) ∙ is) in
           subst (λ (x : Description). ExactHertz (band_start (size_exponent setting) b) (band_width (size_exponent setting) b) x) (sym known.1)
           (described-exact setting b (known_of setting b known.0));
     }
@@ -77,10 +79,10 @@ period-exact choice l h =
     fraction (2 ^ choice / 8) (2 ^ choice) 8 (omega (arith, pow_mono {i = choice} {j = 10} h)) (omega arith)
 
 -- what the rule gives as a rate, and what as a period
-rate-of : (choice : ℕ) (f : Float) → given (rate f) ≡ cadence_of choice → HasValue f false 8 (2 ^ choice)
+rate-of : (choice : ℕ) (f : Float) → given (Rate f) ≡ cadence_of choice → HasValue f false 8 (2 ^ choice)
 rate-of choice f is = go (leb choice 10) (leb (2 ^ choice) 8) refl is
   where
-    go : (a b : Bool) → leb (2 ^ choice) 8 ≡ b → given (rate f) ≡ cond a (cond b (given (rate (whole (8 / 2 ^ choice)))) (given (period (whole (2 ^ choice / 8))))) (refused 12) →
+    go : (a b : Bool) → leb (2 ^ choice) 8 ≡ b → given (Rate f) ≡ cond a (cond b (given (Rate (whole (8 / 2 ^ choice)))) (given (Period (whole (2 ^ choice / 8))))) (refused 12) →
         HasValue f false 8 (2 ^ choice)
     go true true q e =
         let same : whole (8 / 2 ^ choice) ≡ f = cc in
@@ -90,10 +92,10 @@ rate-of choice f is = go (leb choice 10) (leb (2 ^ choice) 8) refl is
     go true false q e = let z : ◌≡◌ {A = ℕ} 0 1 = cc in absurd (omega arith)
     go false b q e = let z : ◌≡◌ {A = ℕ} 0 1 = cc in absurd (omega arith)
 
-period-of : (choice : ℕ) (f : Float) → given (period f) ≡ cadence_of choice → HasValue f false (2 ^ choice) 8
+period-of : (choice : ℕ) (f : Float) → given (Period f) ≡ cadence_of choice → HasValue f false (2 ^ choice) 8
 period-of choice f is = go (leb choice 10) refl (leb (2 ^ choice) 8) refl is
   where
-    go : (a : Bool) → leb choice 10 ≡ a → (b : Bool) → leb (2 ^ choice) 8 ≡ b → given (period f) ≡ cond a (cond b (given (rate (whole (8 / 2 ^ choice)))) (given (period (whole (2 ^ choice / 8))))) (refused 12) →
+    go : (a : Bool) → leb choice 10 ≡ a → (b : Bool) → leb (2 ^ choice) 8 ≡ b → given (Period f) ≡ cond a (cond b (given (Rate (whole (8 / 2 ^ choice)))) (given (Period (whole (2 ^ choice / 8))))) (refused 12) →
         HasValue f false (2 ^ choice) 8
     go true p false q e =
         let same : whole (2 ^ choice / 8) ≡ f = cc in
@@ -104,9 +106,9 @@ period-of choice f is = go (leb choice 10) refl (leb (2 ^ choice) 8) refl is
     go false p b q e = let z : ◌≡◌ {A = ℕ} 0 1 = cc in absurd (omega arith)
 
 -- an answer that meets the rule is exact
-pub exact-cadence : (choice : ℕ) (r : Cadence) → cadence_outcome r ≡ cadence_of choice → ExactCadence choice r
+pub exact-cadence : (choice : ℕ) (r : Result Cadence Refusal) → answer_outcome r ≡ cadence_of choice → ExactCadence choice r
 exact-cadence choice r is =
     record {
-      rate = λ f e. rate-of choice f (sym (ap cadence_outcome e) ∙ is);
-      period = λ f e. period-of choice f (sym (ap cadence_outcome e) ∙ is);
+      rate = λ f e. rate-of choice f (sym (ap answer_outcome e) ∙ is);
+      period = λ f e. period-of choice f (sym (ap answer_outcome e) ∙ is);
     }

@@ -2,17 +2,11 @@
 use Rattle.std.specs.Prelude.{◌&&◌, cond, ℕ, ◌+◌, ◌*◌, ◌/◌, ◌^◌, leb, pos, Float}
 use Rattle.std.specs.Float.{binary32}
 use Rattle.std.specs.Float.Ieee.{of_int}
-use Rattle.refusal.specs.Number.{number_of}
 use Rattle.refusal.specs.Outcome.{Outcome, given, refused}
-use Rattle.bands.specs.declared.BandIndex.{BandIndex}
 use Rattle.bands.specs.declared.Description.{Description}
-use Rattle.bands.specs.declared.BandDescription.{BandDescription}
 use Rattle.bands.specs.declared.Cadence.{Cadence}
+use Rattle.bands.specs.declared.Cadence.TheVariants.{Rate, Period}
 use Rattle.bands.specs.Band.{size_exponent, band_of, band_start, band_width, has_band}
-
-abbrev pub band_index_outcome : BandIndex → Outcome ℕ
-band_index_outcome (BandIndex.Band b) = given b
-band_index_outcome (BandIndex.Refused r) = refused (number_of r)
 
 -- the band of a bin; 12 for a setting over 2 or a bin over 1023
 abbrev pub band_found : ℕ → ℕ → Outcome ℕ
@@ -34,10 +28,6 @@ width_hertz setting b = 8 * band_width (size_exponent setting) b
 abbrev pub centre_hertz : ℕ → ℕ → ℕ
 centre_hertz setting b = low_hertz setting b + width_hertz setting b / 2
 
-abbrev pub band_description_outcome : BandDescription → Outcome Description
-band_description_outcome (BandDescription.Described d) = given d
-band_description_outcome (BandDescription.Refused r) = refused (number_of r)
-
 -- low edge, centre and width of a band
 abbrev pub described : ℕ → ℕ → Description
 described setting b = record { low = whole (low_hertz setting b); centre = whole (centre_hertz setting b); width = whole (width_hertz setting b) }
@@ -46,18 +36,9 @@ described setting b = record { low = whole (low_hertz setting b); centre = whole
 abbrev pub band_described : ℕ → ℕ → Outcome Description
 band_described setting b = cond (has_band setting b) (given (described setting b)) (refused 12)
 
--- a rate per second or a period in seconds
-pub data CadenceValue : Type 0 where
-  rate period : Float → CadenceValue
-
-abbrev pub cadence_outcome : Cadence → Outcome CadenceValue
-cadence_outcome (Cadence.Rate f) = given (rate f)
-cadence_outcome (Cadence.Period f) = given (period f)
-cadence_outcome (Cadence.Refused r) = refused (number_of r)
-
 -- with C = 2 ^ choice: 8 / C per second if C ≤ 8, and otherwise C / 8 seconds, which are whole numbers; 12 for a choice over 10
-abbrev pub cadence_of : ℕ → Outcome CadenceValue
+abbrev pub cadence_of : ℕ → Outcome Cadence
 cadence_of choice =
     cond (leb choice 10)
-    (cond (leb (2 ^ choice) 8) (given (rate (whole (8 / 2 ^ choice)))) (given (period (whole (2 ^ choice / 8)))))
+    (cond (leb (2 ^ choice) 8) (given (Rate (whole (8 / 2 ^ choice)))) (given (Period (whole (2 ^ choice / 8)))))
     (refused 12)

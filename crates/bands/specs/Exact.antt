@@ -1,9 +1,9 @@
 -- 01, "Bands" and "Forms to use in the code": the floats of an answer are exact to the bit. `HasValue x false a c` says that x is finite, has no
 -- minus sign, and is a / c in size.
-use Rattle.std.specs.Prelude.{◌≡◌, false, ℕ, ◌+◌, ◌*◌, ◌^◌, Float}
+use Rattle.std.specs.Prelude.{◌≡◌, false, ℕ, ◌+◌, ◌*◌, ◌^◌, Float, Result, Ok}
 use Rattle.std.specs.Float.Ieee.Exact.{HasValue}
+use Rattle.refusal.specs.declared.Refusal.{Refusal}
 use Rattle.bands.specs.declared.Description.{Description}
-use Rattle.bands.specs.declared.BandDescription.{BandDescription}
 use Rattle.bands.specs.declared.Cadence.{Cadence}
 use Rattle.bands.specs.Band.{size_exponent, band_start, band_width}
 
@@ -14,10 +14,10 @@ pub record ExactHertz (start bins : ℕ) (d : Description) : Type 0 where
   pub width : HasValue d.width false (8 * bins) 1
 
 -- a description that is answered is exact
-pub record ExactDescription (setting band : ℕ) (r : BandDescription) : Type 0 where
-  pub described : (d : Description) → r ≡ BandDescription.Described d → ExactHertz (band_start (size_exponent setting) band) (band_width (size_exponent setting) band) d
+pub record ExactDescription (setting band : ℕ) (r : Result Description Refusal) : Type 0 where
+  pub described : (d : Description) → r ≡ Ok d → ExactHertz (band_start (size_exponent setting) band) (band_width (size_exponent setting) band) d
 
 -- with C = 2 ^ choice: a rate that is answered is 8 / C per second, and a period C / 8 seconds
-pub record ExactCadence (choice : ℕ) (r : Cadence) : Type 0 where
-  pub rate : (f : Float) → r ≡ Cadence.Rate f → HasValue f false 8 (2 ^ choice)
-  pub period : (f : Float) → r ≡ Cadence.Period f → HasValue f false (2 ^ choice) 8
+pub record ExactCadence (choice : ℕ) (r : Result Cadence Refusal) : Type 0 where
+  pub rate : (f : Float) → r ≡ Ok (Cadence.Rate f) → HasValue f false 8 (2 ^ choice)
+  pub period : (f : Float) → r ≡ Ok (Cadence.Period f) → HasValue f false (2 ^ choice) 8

@@ -1,14 +1,8 @@
 -- Serves the contracts of private functions only: the bins of a band.
 use Rattle.std.specs.Prelude.{cond, ℕ}
-use Rattle.refusal.specs.Number.{number_of}
 use Rattle.refusal.specs.Outcome.{Outcome, given, refused}
 use Rattle.bands.specs.declared.BinRange.{BinRange}
-use Rattle.bands.specs.declared.BandBins.{BandBins}
 use Rattle.bands.specs.Band.{size_exponent, band_start, band_width, has_band}
-
-abbrev pub band_bins_outcome : BandBins → Outcome BinRange
-band_bins_outcome (BandBins.Bins r) = given r
-band_bins_outcome (BandBins.Refused r) = refused (number_of r)
 
 -- the first bin of a band and the number of its bins
 abbrev pub bin_range : ℕ → ℕ → BinRange

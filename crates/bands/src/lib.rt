@@ -2,8 +2,9 @@
 #![tactic(auto)]
 
 ghost use Rattle.std.specs.Prelude.{◌≡◌, ◌-◌};
-ghost use Rattle.bands.specs.Private.{band_bins_outcome, band_bins};
-ghost use Rattle.bands.specs.Answer.{band_index_outcome, band_found, band_description_outcome, band_described, cadence_outcome, cadence_of};
+ghost use Rattle.refusal.specs.Outcome.{answer_outcome};
+ghost use Rattle.bands.specs.Private.{band_bins};
+ghost use Rattle.bands.specs.Answer.{band_found, band_described, cadence_of};
 ghost use Rattle.bands.specs.Exact.{ExactDescription, ExactCadence};
 
 use refusal::Refusal;
@@ -12,25 +13,11 @@ use registers::Registers;
 // The number of FFT bins.
 pub const BINS: u16 = 1024;
 
-// The band of an FFT bin, or refusal 12.
-#[derive(Clone, Copy)]
-pub enum BandIndex {
-    Band(u8),
-    Refused(Refusal),
-}
-
 // The bins of a band: so many from start on.
 #[derive(Clone, Copy)]
 struct BinRange {
     start: u16,
     width: u16,
-}
-
-// The bins of a band, or refusal 12.
-#[derive(Clone, Copy)]
-enum BandBins {
-    Bins(BinRange),
-    Refused(Refusal),
 }
 
 // A band in hertz.
@@ -41,77 +28,66 @@ pub struct Description {
     pub width: f32,
 }
 
-// The description of a band, or refusal 12.
-#[derive(Clone, Copy)]
-pub enum BandDescription {
-    Described(Description),
-    Refused(Refusal),
-}
-
-// How often reports come: a rate per second, a period in seconds, or refusal 12.
+// How often reports come: a rate per second, or a period in seconds.
 #[derive(Clone, Copy)]
 pub enum Cadence {
     Rate(f32),
     Period(f32),
-    Refused(Refusal),
 }
 
 // The band of an FFT bin at a bin setting; refusal 12 for a setting over 2 or a bin over 1023.
-pub fn band_of(setting: u8, bin: u16) -> BandIndex
-    ensures { band_index_outcome result ≡ band_found setting bin }
+pub fn band_of(setting: u8, bin: u16) -> Result<u8, Refusal>
+    ensures { answer_outcome result ≡ band_found setting bin }
 {
     if Registers::BINS_LIMIT < setting as u16 {
-        return BandIndex::Refused(Refusal::OutOfRange);
+        return Err(Refusal::OutOfRange);
     }
     if BINS <= bin {
-        return BandIndex::Refused(Refusal::OutOfRange);
+        return Err(Refusal::OutOfRange);
     }
     let s = setting as u32 + 2;
     // the octaves from that of S up to the bin's, 0 for a bin below S: a band there has 2^e bins, and the bin's is S * e + bin / 2^e
     let e = codes::exponent(bin as u64, s + 1);
     let band = ((e << s) + (bin as u32 >> e)) as u8;
-    BandIndex::Band(band)
+    Ok(band)
 }
 
 // The exponent of the width of a band, from the number of its octave.
 fn width_exponent(octave: u8) -> u8
     ensures { result ≡ octave - 1 }
 {
-    if octave == 0 { 0 } else { octave - 1 }
+    octave.saturating_sub(1)
 }
 
 // The bins of a band; refusal 12 for a setting over 2 or a band past the count.
-fn bins_of_band(setting: u8, band: u8) -> BandBins
-    ensures { band_bins_outcome result ≡ band_bins setting band }
+fn bins_of_band(setting: u8, band: u8) -> Result<BinRange, Refusal>
+    ensures { answer_outcome result ≡ band_bins setting band }
 {
     if Registers::BINS_LIMIT < setting as u16 {
-        return BandBins::Refused(Refusal::OutOfRange);
+        return Err(Refusal::OutOfRange);
     }
     let i = setting as usize;
     if registers::BAND_COUNTS[i] <= band {
-        return BandBins::Refused(Refusal::OutOfRange);
+        return Err(Refusal::OutOfRange);
     }
     let s = setting + 2;
     let e = width_exponent(band >> s);
     let m = band - (e << s);
-    BandBins::Bins(BinRange {
+    Ok(BinRange {
         start: (m as u16) << e,
         width: 1u16 << e,
     })
 }
 
 // The low edge, centre and width of a band in hertz, a bin spanning 8 Hz; refusal 12 for a setting over 2 or a band past the count.
-pub fn describe_band(setting: u8, band: u8) -> BandDescription
-    ensures { (band_description_outcome result ≡ band_described setting band) × ExactDescription setting band result }
+pub fn describe_band(setting: u8, band: u8) -> Result<Description, Refusal>
+    ensures { (answer_outcome result ≡ band_described setting band) × ExactDescription setting band result }
 {
-    let found = bins_of_band(setting, band);
-    let BandBins::Bins(bins) = found else {
-        return BandDescription::Refused(Refusal::OutOfRange);
-    };
+    let bins = bins_of_band(setting, band)?;
     let low = 8 * bins.start;
     let width = 8 * bins.width;
     let centre = low + width / 2;
-    BandDescription::Described(Description {
+    Ok(Description {
         low: low as f32,
         centre: centre as f32,
         width: width as f32,
@@ -119,16 +95,16 @@ pub fn describe_band(setting: u8, band: u8) -> BandDescription
 }
 
 // How often reports come at an NCAD choice: 8 / C a second or every C / 8 seconds, C being 2 to that power; refusal 12 for a choice over 10.
-pub fn cadence_of(choice: u8) -> Cadence
-    ensures { (cadence_outcome result ≡ cadence_of choice) × ExactCadence choice result }
+pub fn cadence_of(choice: u8) -> Result<Cadence, Refusal>
+    ensures { (answer_outcome result ≡ cadence_of choice) × ExactCadence choice result }
 {
     if Registers::NCAD_LIMIT < choice as u16 {
-        return Cadence::Refused(Refusal::OutOfRange);
+        return Err(Refusal::OutOfRange);
     }
     let ticks = 1u16 << choice;
     if ticks <= 8 {
-        Cadence::Rate(8.0 / (ticks as f32))
+        Ok(Cadence::Rate(8.0 / (ticks as f32)))
     } else {
-        Cadence::Period((ticks as f32) / 8.0)
+        Ok(Cadence::Period((ticks as f32) / 8.0))
     }
 }

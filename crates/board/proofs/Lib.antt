@@ -1,1 +1,2 @@
+pub mod Soundness
 pub mod Ticking

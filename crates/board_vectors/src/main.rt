@@ -3,10 +3,8 @@
 // printed as 1,000,000 and its number.
 #![tactic(auto)]
 
-use codes::BandValue;
 use model::{State, TickAnswer};
 use refusal::Refusal;
-use registers::Answer;
 use std::io;
 use std::io::{BufWriter, Write};
 
@@ -19,29 +17,23 @@ fn refused(refusal: Refusal) -> u64 {
     1_000_000 + refusal::number(refusal) as u64
 }
 
-fn answer_number(answer: Answer) -> u64 {
-    match answer {
-        Answer::Value(v) => v as u64,
-        Answer::Refused(r) => refused(r),
-    }
+fn answer_number(answer: Result<u16, Refusal>) -> u64 {
+    answer.map_or_else(refused, u64::from)
 }
 
 // Idle 0, collected 1, waiting 2, and a report 1,000 and its words.
-fn tick_number(answer: TickAnswer) -> u64 {
+fn tick_number(answer: Result<TickAnswer, Refusal>) -> u64 {
     match answer {
-        TickAnswer::Idle => 0,
-        TickAnswer::Collected => 1,
-        TickAnswer::Waiting => 2,
-        TickAnswer::Reported(words) => 1000 + words as u64,
-        TickAnswer::Refused(r) => refused(r),
+        Ok(TickAnswer::Idle) => 0,
+        Ok(TickAnswer::Collected) => 1,
+        Ok(TickAnswer::Waiting) => 2,
+        Ok(TickAnswer::Reported(words)) => 1000 + words as u64,
+        Err(r) => refused(r),
     }
 }
 
 fn value_of(code: u8) -> u64 {
-    match codes::expand_band(code) {
-        BandValue::Value(v) => v,
-        BandValue::Refused(r) => refused(r),
-    }
+    codes::expand_band(code).unwrap_or_else(refused)
 }
 
 // A write to a register at reset, and the read of it.
@@ -67,35 +59,17 @@ fn tick_with<W: Write>(
     let ticked = board::tick(state, totals, &powers, out);
     let answer = ticked.answer;
     line(writer, b"tick ", tick_number(answer))?;
-    if 0 < totals.len() {
-        line(writer, b"total ", totals[0])?;
+    if let Some(total) = totals.first() {
+        line(writer, b"total ", *total)?;
     }
     Ok(ticked.state)
 }
 
-// A hexadecimal digit, in capitals; 0 for a number over 15.
-fn digit(n: u8) -> u8 {
-    match n {
-        0..=9 => b'0' + n,
-        10..=15 => b'A' - 10 + n,
-        _ => b'0',
-    }
-}
-
-fn hex<W: Write>(writer: &mut W, byte: u8) -> io::Result<()> {
-    let digits = [digit(byte / 16), digit(byte % 16)];
-    writer.write_all(&digits)
-}
-
 // The first word of an output, and what the code of band 0 in it stands for.
 fn show_first_word<W: Write>(writer: &mut W, out: &[u8]) -> io::Result<()> {
-    if 3 <= out.len() {
-        writer.write_all(b"word ")?;
-        hex(writer, out[0])?;
-        hex(writer, out[1])?;
-        hex(writer, out[2])?;
-        writer.write_all(b"\n")?;
-        line(writer, b"value ", value_of(out[2]))?;
+    if let Some([apid, upper, lower]) = out.first_chunk::<3>() {
+        writeln!(writer, "word {apid:02X}{upper:02X}{lower:02X}")?;
+        line(writer, b"value ", value_of(*lower))?;
     }
     Ok(())
 }

@@ -13,6 +13,8 @@ use Rattle.bursts.specs.declared.SlotState.TheVariants.{Free, Held, Sending}
 use Rattle.bursts.specs.Slots.{slot_state_of, is_held, held_below, held_above, lowest_slot, no_slot, smallest_held, greatest_held}
 use Rattle.lists.proofs.Lowest.{lowest-at, lowest-none}
 use Rattle.lists.proofs.Best.{Best, best}
+use Rattle.std.specs.Prelude.{Option, Some, None, option_map}
+use Rattle.bursts.specs.Searches.{slot_below}
 
 -- how far a held criterion lies below x
 abbrev pub under : ℕ → SlotState → ℕ
@@ -25,6 +27,19 @@ abbrev pub worth : SlotState → ℕ
 worth Free = 0
 worth (Held c) = c + 1
 worth Sending = 0
+
+-- what the search for the greatest criterion has: its place, or the number of slots, and 1 more than it
+abbrev pub place_of : ℕ → Option (ℕ × ℕ) → ℕ
+place_of n None = n
+place_of n (Some q) = q.0
+
+abbrev pub top_of : Option (ℕ × ℕ) → ℕ
+top_of None = 0
+top_of (Some q) = q.1 + 1
+
+pub greatest-place : (n : ℕ) (o : Option (ℕ × ℕ)) → (0 < top_of o → place_of n o < n) → option_map (λ q. q.0) o ≡ slot_below n (place_of n o)
+greatest-place n None h = rw (le-ltb n n (omega arith))
+greatest-place n (Some q) h = rw (lt-ltb q.0 n (h (omega arith)))
 
 -- a search for the greatest value finds the lowest slot that passes a test, where the test passes exactly the slots of the greatest value
 found : (s : Slots) (value : SlotState → ℕ) (test : SlotState → Bool) (place top : ℕ) →

@@ -6,3 +6,6 @@ pub mod Totals
 pub mod Kept
 pub mod Claims
 pub mod Looking
+pub mod Listed
+pub mod Leaving
+pub mod Answering

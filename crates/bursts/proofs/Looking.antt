@@ -9,8 +9,8 @@ use Rattle.lists.proofs.Choices.{by_cases, cond-true, cond-false}
 use Rattle.bursts.specs.declared.Slots.{Slots}
 use Rattle.bursts.specs.declared.SlotState.{SlotState}
 use Rattle.bursts.specs.declared.SlotState.TheVariants.{Free, Held, Sending}
-use Rattle.bursts.specs.Slots.{slot_state_of, is_free, held_below, lowest_slot, no_slot, smallest_held, sound, looked_at, takes, refused_after, offer_outcome}
-use Rattle.bursts.specs.Searches.{place_for}
+use Rattle.bursts.specs.Slots.{slot_state_of, is_free, held_below, held_above, lowest_slot, no_slot, smallest_held, greatest_held, sound, looked_at, offer_outcome}
+use Rattle.bursts.specs.Searches.{place_for, place_answer}
 use Rattle.bursts.specs.Claims.{AgreeBelow, SameAnswer}
 use Rattle.lists.proofs.Lowest.{lowest-at, lowest-ext, lowest-before, lowest-test, none_passes}
 use Rattle.bursts.proofs.Cases.{some-passes}
@@ -20,9 +20,14 @@ module _ (s t : Slots) (many : s.count ≡ t.count) where
   -- ---- all slots agree
 
   module _ (agree : AgreeBelow s.count s t) where
-    same_none : (test : SlotState → Bool) → no_slot s test ≡ no_slot t test
+    pub same_none : (test : SlotState → Bool) → no_slot s test ≡ no_slot t test
     same_none test =
         all_to-ext s.count (λ i. not (test (slot_state_of s i))) (λ i. not (test (slot_state_of t i))) (λ i l. ap (λ (a : SlotState). not (test a)) (agree i l))
+        ∙ rw many
+
+    pub same-lowest : (f g : SlotState → Bool) → ((a : SlotState) → f a ≡ g a) → lowest_slot s f ≡ lowest_slot t g
+    same-lowest f g same =
+        lowest-ext s.count (λ i. f (slot_state_of s i)) (λ i. g (slot_state_of t i)) (λ i l. same (slot_state_of s i) ∙ ap g (agree i l))
         ∙ rw many
 
     same-smallest : (a : SlotState) → smallest_held s a ≡ smallest_held t a
@@ -30,15 +35,17 @@ module _ (s t : Slots) (many : s.count ≡ t.count) where
     same-smallest (Held c) = same_none (held_below c)
     same-smallest Sending = refl
 
+    pub same-greatest : (a : SlotState) → greatest_held s a ≡ greatest_held t a
+    same-greatest Free = refl
+    same-greatest (Held c) = same_none (held_above c)
+    same-greatest Sending = refl
+
     same_place : lowest_slot s (smallest_held s) ≡ lowest_slot t (smallest_held t)
-    same_place =
-        lowest-ext s.count (λ i. smallest_held s (slot_state_of s i)) (λ i. smallest_held t (slot_state_of t i))
-        (λ i l. same-smallest (slot_state_of s i) ∙ ap (smallest_held t) (agree i l))
-        ∙ rw many
+    same_place = same-lowest (smallest_held s) (smallest_held t) same-smallest
 
   -- ---- the search
 
-  same-search : (x : ℕ) → AgreeBelow (looked_at s) s t → (place_for s x ≡ place_for t x) × (looked_at s ≡ looked_at t)
+  pub same-search : (x : ℕ) → AgreeBelow (looked_at s) s t → (place_for s x ≡ place_for t x) × (looked_at s ≡ looked_at t)
   unfolding place_for looked_at
   same-search x agree =
       by_cases (no_slot s is_free)
@@ -59,8 +66,7 @@ module _ (s t : Slots) (many : s.count ≡ t.count) where
       (λ j h. ap is_free (sym (far j (omega arith))) ∙ lowest-before s.count free j h) in
       (simp (e, e') (sym q), simp (e, e') (ap (λ (n : ℕ). n + 1) (sym q))))
 
-answered : (s : Slots) (x : ℕ) → sound s ≡ true →
-    (offer_outcome s x).answer ≡ cond (ltb (place_for s x) s.count) (takes (place_for s x) (looked_at s)) (refused_after 25 (looked_at s))
+pub answered : (s : Slots) (x : ℕ) → sound s ≡ true → (offer_outcome s x).answer ≡ place_answer s x
 answered s x ok =
     by_cases (ltb (place_for s x) s.count)
     (λ e. ap (λ r. r.answer) (offer-by-place s x) ∙ simp (ok, e))

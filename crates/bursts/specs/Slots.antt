@@ -1,16 +1,16 @@
 -- 02, tickets 9 and 10 (source document 004, sections 1.2 and 2.3): burst slots, and what offer, choose and finish do. Assumes nothing.
-use Rattle.std.specs.Prelude.{ℕ, ◌+◌, Bool, true, false, cond, ◌&&◌, not, get_or, set, leb, ltb}
+use Rattle.std.specs.Prelude.{ℕ, ◌+◌, Bool, true, false, cond, ◌&&◌, not, get_or, set, leb, ltb, Result, Ok, Err}
 use Rattle.lists.specs.Sums.{all_to, sum_to}
 use Rattle.lists.specs.Lowest.{lowest}
 use Rattle.refusal.specs.Number.{number_of}
 use Rattle.refusal.specs.declared.Refusal.{Refusal}
-use Rattle.refusal.specs.Outcome.{Outcome, given, refused}
+use Rattle.refusal.specs.Outcome.{Outcome, given, refused, answer_outcome}
 use Rattle.bursts.specs.declared.SlotState.{SlotState}
 use Rattle.bursts.specs.declared.SlotState.TheVariants.{Free, Held, Sending}
 use Rattle.bursts.specs.declared.Slots.{Slots}
-use Rattle.bursts.specs.declared.SlotAnswer.{SlotAnswer}
 use Rattle.bursts.specs.declared.Done.{Done}
-use Rattle.bursts.specs.declared.OfferAnswer.{OfferAnswer}
+use Rattle.bursts.specs.declared.Placed.{Placed}
+use Rattle.bursts.specs.declared.OfferRefusal.{OfferRefusal}
 use Rattle.bursts.specs.declared.Offered.{Offered}
 
 -- ---- the state of slot i
@@ -81,12 +81,8 @@ pub record SlotsOutcome : Type 0 where
   pub answer : Outcome ℕ
   pub slots : Slots
 
-abbrev pub slot_outcome : SlotAnswer → Outcome ℕ
-slot_outcome (SlotAnswer.Slot i) = given i
-slot_outcome (SlotAnswer.Refused r) = refused (number_of r)
-
 abbrev pub done_outcome : Done → SlotsOutcome
-done_outcome d = record { answer = slot_outcome d.answer; slots = d.slots }
+done_outcome d = record { answer = answer_outcome d.answer; slots = d.slots }
 
 -- refused: the slots are as they were
 abbrev pub refused_by : ℕ → Slots → SlotsOutcome
@@ -110,10 +106,10 @@ pub record OfferOutcome : Type 0 where
   pub answer : OfferAnswered
   pub slots : Slots
 
-abbrev pub offer_answer_outcome : OfferAnswer → OfferAnswered
-offer_answer_outcome (OfferAnswer.Slot i looked) = takes i looked
-offer_answer_outcome (OfferAnswer.TurnedAway looked) = refused_after (number_of Refusal.TurnedAway) looked
-offer_answer_outcome (OfferAnswer.Refused r) = refused_alone (number_of r)
+abbrev pub offer_answer_outcome : Result Placed OfferRefusal → OfferAnswered
+offer_answer_outcome (Ok p) = takes p.slot p.looked
+offer_answer_outcome (Err (OfferRefusal.TurnedAway looked)) = refused_after (number_of Refusal.TurnedAway) looked
+offer_answer_outcome (Err (OfferRefusal.Refused r)) = refused_alone (number_of r)
 
 abbrev pub offered_outcome : Offered → OfferOutcome
 offered_outcome r = record { answer = offer_answer_outcome r.answer; slots = r.slots }

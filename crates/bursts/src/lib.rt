@@ -1,16 +1,20 @@
 // Burst slots (02, tickets 9 and 10; source document 004, sections 1.2 and 2.3): blocks are held with a criterion until one is sent.
 #![tactic(auto)]
 
-ghost use Rattle.std.specs.Prelude.{◌≡◌, ◌≤◌, ◌<◌};
-ghost use Rattle.bursts.specs.Slots.{lowest_slot, is_sending, greatest_held, sending_slots, sound, changed, looked_at, done_outcome, offered_outcome, offer_outcome, choose_outcome, finish_outcome};
-ghost use Rattle.bursts.specs.Searches.{place_for};
+ghost use Rattle.std.specs.Prelude.{◌≡◌, ◌≤◌, ◌<◌, true, false, take, count_by, position, IfOk, MatchResult};
+ghost use Rattle.refusal.specs.Outcome.{answer_outcome};
+ghost use Rattle.bursts.specs.Slots.{is_sending, greatest_held, sound, changed, done_outcome, offer_answer_outcome, offered_outcome, offer_outcome, choose_outcome, finish_outcome};
+ghost use Rattle.bursts.specs.Searches.{listed, same_state, slot_found, smallest_below, place_answer, settled};
 
 use refusal::Refusal;
 
 // The greatest number of slots.
 pub const MOST_SLOTS: usize = 32;
 
-#[derive(Clone, Copy)]
+// The greatest number of slots that are sending.
+const MOST_SENDING: usize = 1;
+
+#[derive(Clone, Copy, PartialEq, Eq)]
 pub enum SlotState {
     Free,
     // a block with its criterion
@@ -18,7 +22,7 @@ pub enum SlotState {
     Sending,
 }
 
-#[derive(Clone, Copy)]
+#[derive(Clone, Copy, PartialEq, Eq)]
 pub struct Slot {
     pub state: SlotState,
 }
@@ -30,144 +34,146 @@ pub struct Slots {
     pub count: usize,
 }
 
-// The slot that a call takes, from 0, or the refusal.
-#[derive(Clone, Copy)]
-pub enum SlotAnswer {
-    Slot(usize),
-    Refused(Refusal),
-}
-
 // What a call leaves: its answer, and the slots afterwards.
 #[derive(Clone, Copy)]
 pub struct Done {
-    pub answer: SlotAnswer,
+    pub answer: Result<usize, Refusal>,
     pub slots: Slots,
 }
 
-// What an offer answers: the slot that takes the block, with the number of slots looked at; turned away (25), with that number; or another
-// refusal.
+// The slot that takes an offered block, and the number of slots looked at.
 #[derive(Clone, Copy)]
-pub enum OfferAnswer {
-    Slot { slot: usize, looked: usize },
+pub struct Placed {
+    pub slot: usize,
+    pub looked: usize,
+}
+
+// An offer is turned away (25), with the number of slots looked at; or another refusal.
+#[derive(Clone, Copy)]
+pub enum OfferRefusal {
     TurnedAway { looked: usize },
     Refused(Refusal),
+}
+
+impl From<Refusal> for OfferRefusal {
+    ghost use Rattle.bursts.specs.declared.OfferRefusal.{OfferRefusal};
+
+    ghost from_gives = { λ r e. e ≡ OfferRefusal.Refused r };
+
+    fn from(refusal: Refusal) -> OfferRefusal {
+        OfferRefusal::Refused(refusal)
+    }
 }
 
 // What an offer leaves: its answer, and the slots afterwards.
 #[derive(Clone, Copy)]
 pub struct Offered {
-    pub answer: OfferAnswer,
+    pub answer: Result<Placed, OfferRefusal>,
     pub slots: Slots,
 }
 
-// What the search for an offer finds, and how many slots it looked at.
-#[derive(Clone, Copy)]
-struct Found {
-    place: usize,
-    looked: usize,
-}
-
 // How many slots are sending.
-fn count_sending(slots: Slots) -> usize
-    requires { slots.count ≤ 32 }
-    ensures { result ≡ sending_slots slots }
+fn count_sending(slots: &[Slot]) -> usize
+    ensures { result ≡ count_by (λ slot. is_sending slot.state) slots.now }
 {
-    let mut sending = 0;
-    let mut i = 0;
-    while i < slots.count {
-        let slot = slots.slot[i];
-        let state = slot.state;
-        if let SlotState::Sending = state {
-            sending += 1;
-        }
-        i += 1;
-    }
-    sending
+    slots
+        .iter()
+        .filter(|slot| slot.state == SlotState::Sending)
+        .count()
 }
 
-fn is_sound(slots: Slots) -> bool
-    ensures { result ≡ sound slots }
+// The slots that are looked at, if their state is sound.
+fn sound_slots(slots: &Slots) -> Result<&[Slot], Refusal>
+    ensures { MatchResult result
+        (λ l. (sound slots.now ≡ true) × (l.now ≡ take slots.now.count slots.now.slot))
+        (λ refusal. (sound slots.now ≡ false) × (refusal ≡ Refusal.UnsoundState)) }
 {
     if slots.count <= MOST_SLOTS {
-        count_sending(slots) <= 1
-    } else {
-        false
-    }
-}
-
-// The lowest slot that is sending; the number of slots if none is.
-fn sending_slot(slots: Slots) -> usize
-    requires { slots.count ≤ 32 }
-    ensures { result ≡ lowest_slot slots is_sending }
-{
-    let mut i = 0;
-    while i < slots.count {
-        let slot = slots.slot[i];
-        let state = slot.state;
-        if let SlotState::Sending = state {
-            return i;
-        }
-        i += 1;
-    }
-    i
-}
-
-// The slot that takes an offered block, or the number of slots if the block is turned away.
-fn search(slots: Slots, criterion: u32) -> Found
-    requires { slots.count ≤ 32 }
-    ensures { (result.place ≡ place_for slots criterion) × (result.looked ≡ looked_at slots) }
-{
-    let mut place = slots.count;
-    let mut least = criterion;
-    let mut looked = 0;
-    while looked < slots.count {
-        let i = looked;
-        let slot = slots.slot[i];
-        let state = slot.state;
-        looked += 1;
-        match state {
-            SlotState::Free => {
-                return Found {
-                    place: i,
-                    looked: looked,
-                };
-            }
-            SlotState::Held(held) => {
-                if held < least {
-                    place = i;
-                    least = held;
-                }
-            }
-            SlotState::Sending => {}
+        let looked_at = &slots.slot[..slots.count];
+        if count_sending(looked_at) <= MOST_SENDING {
+            return Ok(looked_at);
         }
     }
-    Found {
-        place: place,
-        looked: looked,
-    }
+    Err(Refusal::UnsoundState)
 }
 
-// The held slot with the greatest criterion, the lowest on a tie; the number of slots if none is held.
-fn greatest_held(slots: Slots) -> usize
-    requires { slots.count ≤ 32 }
-    ensures { result ≡ lowest_slot slots (greatest_held slots) }
+// The lowest slot of a state.
+fn slot_in(slots: &[Slot], state: SlotState) -> Option<usize>
+    ensures { result ≡ position (λ slot. same_state state slot.state) slots.now }
 {
-    let mut place = slots.count;
-    // 1 more than the greatest criterion so far
-    let mut above: u64 = 0;
-    let mut i = 0;
-    while i < slots.count {
-        let slot = slots.slot[i];
-        let state = slot.state;
-        if let SlotState::Held(held) = state {
-            if above <= held as u64 {
-                place = i;
-                above = held as u64 + 1;
+    slots.iter().position(|slot| slot.state == state)
+}
+
+// The held slot with the smallest criterion, the lowest on a tie, if that criterion is below a limit.
+fn smallest_below(slots: &[Slot], limit: u32) -> Option<usize>
+    ensures { result ≡ smallest_below (listed slots.now) limit }
+{
+    let mut place = None;
+    let mut least = limit;
+    for (i, slot) in slots.iter().enumerate() {
+        if let SlotState::Held(criterion) = slot.state {
+            if criterion < least {
+                place = Some(i);
+                least = criterion;
             }
         }
-        i += 1;
     }
     place
+}
+
+// The held slot with the greatest criterion, the lowest on a tie.
+fn greatest_held(slots: &[Slot]) -> Option<usize>
+    ensures { result ≡ slot_found (listed slots.now) (greatest_held (listed slots.now)) }
+{
+    let mut greatest = None;
+    for (i, slot) in slots.iter().enumerate() {
+        if let SlotState::Held(criterion) = slot.state {
+            match greatest {
+                Some((_, most)) if criterion <= most => {}
+                _ => greatest = Some((i, criterion)),
+            }
+        }
+    }
+    greatest.map(|(i, _)| i)
+}
+
+// The slot that takes an offered block: the lowest free slot, or the held slot with the smallest criterion.
+fn place(slots: &[Slot], criterion: u32) -> Result<Placed, OfferRefusal>
+    ensures { offer_answer_outcome result ≡ place_answer (listed slots.now) criterion }
+{
+    if let Some(free) = slot_in(slots, SlotState::Free) {
+        return Ok(Placed {
+            slot: free,
+            looked: free + 1,
+        });
+    }
+    let looked = slots.len();
+    match smallest_below(slots, criterion) {
+        Some(slot) => Ok(Placed { slot, looked }),
+        None => Err(OfferRefusal::TurnedAway { looked }),
+    }
+}
+
+fn offer_answer(slots: &Slots, criterion: u32) -> Result<Placed, OfferRefusal>
+    ensures { offer_answer_outcome result ≡ (offer_outcome slots.now criterion).answer }
+{
+    place(sound_slots(slots)?, criterion)
+}
+
+fn choose_answer(slots: &Slots) -> Result<usize, Refusal>
+    ensures { answer_outcome result ≡ (choose_outcome slots.now).answer }
+{
+    let looked_at = sound_slots(slots)?;
+    if slot_in(looked_at, SlotState::Sending).is_some() {
+        return Err(Refusal::AlreadySending);
+    }
+    greatest_held(looked_at).ok_or(Refusal::NothingToSend)
+}
+
+fn finish_answer(slots: &Slots) -> Result<usize, Refusal>
+    ensures { answer_outcome result ≡ (finish_outcome slots.now).answer }
+{
+    slot_in(sound_slots(slots)?, SlotState::Sending).ok_or(Refusal::NoneSending)
 }
 
 fn change(slots: Slots, place: usize, state: SlotState) -> Slots
@@ -175,28 +181,21 @@ fn change(slots: Slots, place: usize, state: SlotState) -> Slots
     ensures { result ≡ changed slots place state }
 {
     let mut after = slots;
-    after.slot[place] = Slot { state: state };
+    after.slot[place] = Slot { state };
     after
 }
 
-fn refuse(slots: Slots, refusal: Refusal) -> Done
-    ensures { result ≡ record { answer = SlotAnswer.Refused refusal; slots = slots } }
+// A slot that is the answer has a new state.
+fn settle(slots: Slots, answer: Result<usize, Refusal>, state: SlotState) -> Done
+    requires { IfOk answer (λ place. place < 32) }
+    ensures { done_outcome result ≡ settled slots (answer_outcome answer) state }
 {
     Done {
-        answer: SlotAnswer::Refused(refusal),
-        slots: slots,
-    }
-}
-
-// The slot is the answer, and has a new state.
-fn take(slots: Slots, place: usize, state: SlotState) -> Done
-    requires { place < 32 }
-    ensures { result ≡ record { answer = SlotAnswer.Slot place; slots = changed slots place state } }
-{
-    let after = change(slots, place, state);
-    Done {
-        answer: SlotAnswer::Slot(place),
-        slots: after,
+        answer,
+        slots: match answer {
+            Ok(place) => change(slots, place, state),
+            Err(_) => slots,
+        },
     }
 }
 
@@ -204,29 +203,13 @@ fn take(slots: Slots, place: usize, state: SlotState) -> Done
 pub fn offer(slots: Slots, criterion: u32) -> Offered
     ensures { offered_outcome result ≡ offer_outcome slots criterion }
 {
-    if !is_sound(slots) {
-        return Offered {
-            answer: OfferAnswer::Refused(Refusal::UnsoundState),
-            slots: slots,
-        };
-    }
-    let found = search(slots, criterion);
-    let place = found.place;
-    let looked = found.looked;
-    if place < slots.count {
-        let after = change(slots, place, SlotState::Held(criterion));
-        Offered {
-            answer: OfferAnswer::Slot {
-                slot: place,
-                looked: looked,
-            },
-            slots: after,
-        }
-    } else {
-        Offered {
-            answer: OfferAnswer::TurnedAway { looked: looked },
-            slots: slots,
-        }
+    let answer = offer_answer(&slots, criterion);
+    Offered {
+        answer,
+        slots: match answer {
+            Ok(placed) => change(slots, placed.slot, SlotState::Held(criterion)),
+            Err(_) => slots,
+        },
     }
 }
 
@@ -234,31 +217,12 @@ pub fn offer(slots: Slots, criterion: u32) -> Offered
 pub fn choose(slots: Slots) -> Done
     ensures { done_outcome result ≡ choose_outcome slots }
 {
-    if !is_sound(slots) {
-        return refuse(slots, Refusal::UnsoundState);
-    }
-    if sending_slot(slots) < slots.count {
-        return refuse(slots, Refusal::AlreadySending);
-    }
-    let place = greatest_held(slots);
-    if place < slots.count {
-        take(slots, place, SlotState::Sending)
-    } else {
-        refuse(slots, Refusal::NothingToSend)
-    }
+    settle(slots, choose_answer(&slots), SlotState::Sending)
 }
 
 // The block has been sent. Refusals in the order 3, 28.
 pub fn finish(slots: Slots) -> Done
     ensures { done_outcome result ≡ finish_outcome slots }
 {
-    if !is_sound(slots) {
-        return refuse(slots, Refusal::UnsoundState);
-    }
-    let place = sending_slot(slots);
-    if place < slots.count {
-        take(slots, place, SlotState::Free)
-    } else {
-        refuse(slots, Refusal::NoneSending)
-    }
+    settle(slots, finish_answer(&slots), SlotState::Free)
 }

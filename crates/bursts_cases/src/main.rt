@@ -2,115 +2,77 @@
 // a model of its own. A line is the call, its answer (s with a slot, r with a refusal, n with the slots that an offer looked at) and the slots: free ., sending S, held with a digit or *.
 #![tactic(auto)]
 
-use bursts::{OfferAnswer, Slot, SlotAnswer, SlotState, Slots};
+use bursts::{Done, OfferRefusal, Placed, Slot, SlotState, Slots};
 use refusal::Refusal;
 use std::io;
 use std::io::{BufWriter, Write};
 
-fn put<W: Write>(writer: &mut W, byte: u8) -> io::Result<()> {
-    let text = [byte];
-    writer.write_all(&text)
+fn show_refusal<W: Write>(writer: &mut W, refusal: Refusal) -> io::Result<()> {
+    write!(writer, "r{:02}", refusal::number(refusal))
 }
 
-fn digit(n: usize) -> u8 {
-    if n < 10 { b'0' + n as u8 } else { b'*' }
-}
-
-fn show_number<W: Write>(writer: &mut W, letter: u8, number: usize) -> io::Result<()> {
-    put(writer, letter)?;
-    put(writer, digit(number / 10))?;
-    put(writer, digit(number % 10))
-}
-
-fn show_answer<W: Write>(writer: &mut W, answer: SlotAnswer) -> io::Result<()> {
+fn show_answer<W: Write>(writer: &mut W, answer: Result<usize, Refusal>) -> io::Result<()> {
     match answer {
-        SlotAnswer::Slot(slot) => show_number(writer, b's', slot)?,
-        SlotAnswer::Refused(refusal) => show_number(
-            writer,
-            b'r',
-            refusal::number(refusal) as usize,
-        )?,
+        Ok(slot) => write!(writer, "s{slot:02}"),
+        Err(refusal) => show_refusal(writer, refusal),
     }
-    Ok(())
 }
 
 // The slot or the refusal, and the number of slots looked at.
-fn show_offer_answer<W: Write>(writer: &mut W, answer: OfferAnswer) -> io::Result<()> {
+fn show_offer_answer<W: Write>(
+    writer: &mut W,
+    answer: Result<Placed, OfferRefusal>,
+) -> io::Result<()> {
     match answer {
-        OfferAnswer::Slot { slot, looked } => {
-            show_number(writer, b's', slot)?;
-            show_number(writer, b'n', looked)?;
+        Ok(Placed { slot, looked }) => write!(writer, "s{slot:02}n{looked:02}"),
+        Err(OfferRefusal::TurnedAway { looked }) => {
+            show_refusal(writer, Refusal::TurnedAway)?;
+            write!(writer, "n{looked:02}")
         }
-        OfferAnswer::TurnedAway { looked } => {
-            show_number(writer, b'r', refusal::number(Refusal::TurnedAway) as usize)?;
-            show_number(writer, b'n', looked)?;
-        }
-        OfferAnswer::Refused(refusal) => show_number(
-            writer,
-            b'r',
-            refusal::number(refusal) as usize,
-        )?,
+        Err(OfferRefusal::Refused(refusal)) => show_refusal(writer, refusal),
     }
-    Ok(())
 }
 
 fn show_state<W: Write>(writer: &mut W, state: SlotState) -> io::Result<()> {
     match state {
-        SlotState::Free => put(writer, b'.')?,
-        SlotState::Held(criterion) => put(writer, digit(criterion as usize))?,
-        SlotState::Sending => put(writer, b'S')?,
+        SlotState::Free => writer.write_all(b"."),
+        SlotState::Held(criterion) if criterion < 10 => write!(writer, "{criterion}"),
+        SlotState::Held(_) => writer.write_all(b"*"),
+        SlotState::Sending => writer.write_all(b"S"),
     }
-    Ok(())
 }
 
 fn show_slots<W: Write>(writer: &mut W, slots: Slots) -> io::Result<()> {
-    for i in 0..32 {
-        if i < slots.count {
-            let slot = slots.slot[i];
-            let state = slot.state;
-            show_state(writer, state)?;
-        }
+    for slot in slots.slot.iter().take(slots.count) {
+        show_state(writer, slot.state)?;
     }
-    put(writer, b'\n')
+    writer.write_all(b"\n")
 }
 
-fn leave<W: Write>(writer: &mut W, answer: SlotAnswer, slots: Slots) -> io::Result<Slots> {
-    show_answer(writer, answer)?;
-    put(writer, b' ')?;
-    show_slots(writer, slots)?;
-    Ok(slots)
+fn leave<W: Write>(writer: &mut W, done: Done) -> io::Result<Slots> {
+    show_answer(writer, done.answer)?;
+    writer.write_all(b" ")?;
+    show_slots(writer, done.slots)?;
+    Ok(done.slots)
 }
 
 fn offer<W: Write>(writer: &mut W, slots: Slots, criterion: u32) -> io::Result<Slots> {
-    let done = bursts::offer(slots, criterion);
-    let answer = done.answer;
-    let after = done.slots;
-    show_offer_answer(writer, answer)?;
-    put(writer, b' ')?;
-    show_slots(writer, after)?;
-    Ok(after)
+    let offered = bursts::offer(slots, criterion);
+    show_offer_answer(writer, offered.answer)?;
+    writer.write_all(b" ")?;
+    show_slots(writer, offered.slots)?;
+    Ok(offered.slots)
 }
 
 // A digit is an offer, ! an offer of the greatest criterion, c choose, f finish.
 fn step<W: Write>(writer: &mut W, slots: Slots, op: u8) -> io::Result<Slots> {
-    put(writer, op)?;
-    put(writer, b' ')?;
-    if op == b'c' {
-        let done = bursts::choose(slots);
-        let answer = done.answer;
-        let after = done.slots;
-        return leave(writer, answer, after);
+    writer.write_all(&[op, b' '])?;
+    match op {
+        b'c' => leave(writer, bursts::choose(slots)),
+        b'f' => leave(writer, bursts::finish(slots)),
+        b'0'..=b'9' => offer(writer, slots, u32::from(op - b'0')),
+        _ => offer(writer, slots, u32::MAX),
     }
-    if op == b'f' {
-        let done = bursts::finish(slots);
-        let answer = done.answer;
-        let after = done.slots;
-        return leave(writer, answer, after);
-    }
-    if op < b'0' {
-        return offer(writer, slots, 0xFFFF_FFFF);
-    }
-    offer(writer, slots, (op - b'0') as u32)
 }
 
 // Slots of which the first are sending: none, one or two.
@@ -118,28 +80,19 @@ fn start(count: usize, sending: usize) -> Slots {
     let free = Slot {
         state: SlotState::Free,
     };
-    let busy = Slot {
-        state: SlotState::Sending,
-    };
     let mut slot = [free; 32];
-    if 0 < sending {
-        slot[0] = busy;
+    for busy in slot.iter_mut().take(sending) {
+        busy.state = SlotState::Sending;
     }
-    if 1 < sending {
-        slot[1] = busy;
-    }
-    Slots {
-        slot: slot,
-        count: count,
-    }
+    Slots { slot, count }
 }
 
 fn run<W: Write>(writer: &mut W, count: usize, sending: usize, ops: &[u8]) -> io::Result<()> {
     let mut slots = start(count, sending);
-    for i in 0..ops.len() {
-        slots = step(writer, slots, ops[i])?;
+    for op in ops {
+        slots = step(writer, slots, *op)?;
     }
-    put(writer, b'\n')
+    writer.write_all(b"\n")
 }
 
 fn main(rt: HostRuntime) -> io::Result<()> {

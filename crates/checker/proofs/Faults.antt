@@ -19,7 +19,8 @@ use Rattle.board_log.specs.declared.Record.{Record}
 use Rattle.board_log.specs.Format.{is_kind, decode, checked}
 use Rattle.board_log.specs.Cursor.{Found, read_at, next_place, found_checked}
 use Rattle.board_log.proofs.Encoding.{read-end}
-use Rattle.checker.specs.Check.{Judged, accepted, refused_at, Standing, Stepped, next, last, within_period, check_command, check_mark, after_record, end_judgement, judged_at, record_step, read_step, step_at}
+use Rattle.checker.specs.declared.Standing.{Standing}
+use Rattle.checker.specs.Check.{Judged, accepted, refused_at, Stepped, next, last, within_period, check_command, check_mark, after_record, end_judgement, judged_at, record_step, read_step, step_at}
 use Rattle.checker.proofs.Period.{over-broken, broken-over}
 use Rattle.checker.specs.Claims.{in_profile, registers_after, PeriodKept, kind_at, Stands, NotFalling, Offends, unknown-kind, body-cut, other-kind, unknown-id, altered, falls, over-period, over-period-at-end}
 use Rattle.checker.proofs.Rules.{After, Last, unmarked, marked, not-falling}

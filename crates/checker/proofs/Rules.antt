@@ -17,7 +17,8 @@ use Rattle.board_log.specs.declared.Command.{Command}
 use Rattle.board_log.specs.declared.Record.{Record}
 use Rattle.board_log.specs.Format.{checked}
 use Rattle.board_log.proofs.Moves.{command-known}
-use Rattle.checker.specs.Check.{Standing, within_period, check_command, check_mark, check_record, after_record, at_start}
+use Rattle.checker.specs.declared.Standing.{Standing}
+use Rattle.checker.specs.Check.{within_period, check_command, check_mark, check_record, after_record, at_start}
 use Rattle.checker.specs.Claims.{in_profile, StoresSent, registers_from, registers_after, PeriodKept, KeepsRules, NotFalling}
 use Rattle.checker.proofs.Period.{within-kept, kept-within}
 

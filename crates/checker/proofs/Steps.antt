@@ -7,12 +7,10 @@ use native.Mathlib.Omega.{arith}
 use lib.ListN.{length}
 use Rattle.refusal.specs.Outcome.{Outcome, given, refused}
 use Rattle.board_log.specs.declared.Record.{Record}
-use Rattle.board_log.specs.declared.Read.{Read}
-use Rattle.board_log.specs.Cursor.{Found, found, end, read_outcome, read_at}
+use Rattle.board_log.specs.Cursor.{Found, found, end, read_at}
 use Rattle.board_log.proofs.Moves.{found-parts}
-use Rattle.board_log.proofs.Tags.{NoRecord, without-record}
-use Rattle.checker.specs.Check.{refused_at, Checked, Standing, Stepped, next, last, check_record, after_record, judged_at, record_step, read_step, step_at, checked_on, check_steps, check_from}
-use Rattle.checker.specs.Private.{judgement_without_record}
+use Rattle.checker.specs.declared.Standing.{Standing}
+use Rattle.checker.specs.Check.{refused_at, Checked, Stepped, next, last, check_record, after_record, judged_at, record_step, read_step, step_at, checked_on, check_steps, check_from}
 
 no_step : {v : Checked} {after : ℕ} {later : Standing} → last v ≡ next after later → ⊥
 no_step e = let z : ◌≡◌ {A = ℕ} 0 1 = cc in omega arith
@@ -54,10 +52,7 @@ step-passes log at s after later = by (read_at log at) refl
     by (given end) e h = absurd (no_step h)
     by (refused n) e h = absurd (no_step h)
 
--- the step at a place by what was read there: no record, a record that is refused, and one that is kept
-pub step-without : (at : ℕ) (s : Standing) (q : Read) → NoRecord q → read_step (read_outcome q) at s ≡ judged_at s (judgement_without_record (read_outcome q) s.registers at)
-step-without at s = without-record (λ o. read_step o at s ≡ judged_at s (judgement_without_record o s.registers at)) refl (λ n. refl)
-
+-- the step at a place by what was read there: a record that is refused, and one that is kept
 module _ (log : List ℕ) (at : ℕ) (s : Standing) (r : Record) (after : ℕ) (e : read_at log at ≡ given (found r after)) where
   step-found : step_at log at s ≡ record_step (check_record s r) s r at after
   step-found = ap (λ (o : Outcome Found). read_step o at s) e

@@ -13,7 +13,8 @@ use Rattle.board_log.specs.History.{ReadsAs}
 use Rattle.board_log.specs.History as history
 use Rattle.board_log.proofs.Encoding.{read-end}
 use Rattle.board_log.proofs.Moves.{found-parts, read-end-place}
-use Rattle.checker.specs.Check.{Judged, Checked, Standing, accepted, refused_at, Stepped, next, last, within_period, after_record, judged_at, read_step, step_at, check_from, at_start, commands_checked}
+use Rattle.checker.specs.declared.Standing.{Standing}
+use Rattle.checker.specs.Check.{Judged, Checked, accepted, refused_at, Stepped, next, last, within_period, after_record, judged_at, read_step, step_at, check_from, at_start, commands_checked}
 use Rattle.checker.proofs.Period.{within-kept, kept-within}
 use Rattle.checker.specs.Claims.{KeepsRules, Keeps, AcceptedExactly, ReadsTo, none, more, Offends, unknown-kind, body-cut, other-kind, unknown-id, altered, falls, over-period, over-period-at-end, FirstFault, RefusedExactly, RefusesWithin, CheckRefusals}
 use Rattle.checker.proofs.Rules.{After, after_none, after_more, keeps-none, keeps-more, rules-pass}

@@ -1,6 +1,7 @@
 -- The check of a command list, record by record from reset (02, ticket 6). Per record the refusals come in the order 9, 10, then 18, 1, 20
 -- for a command, 19, 21 for a second mark; at the end 21. `read_at` gives 9, 10 and 1.
-use Rattle.std.specs.Prelude.{Bool, cond, not, ◌||◌, List, ℕ, zero, suc, ◌+◌, leb, ltb, eqb, length}
+use Rattle.std.specs.Prelude.{Bool, cond, not, ◌||◌, List, ℕ, zero, suc, ◌+◌, leb, ltb, eqb, length, Result, Ok, Err}
+use Rattle.refusal.specs.declared.Fault.{Fault}
 use Rattle.refusal.specs.Number.{number_of}
 use Rattle.refusal.specs.Outcome.{Outcome, given, refused}
 use Rattle.registers.specs.declared.Registers.{Registers}
@@ -10,7 +11,7 @@ use Rattle.settings.specs.Settings.{averaged_spectra, period_ticks, enabled_coun
 use Rattle.board_log.specs.declared.Command.{Command}
 use Rattle.board_log.specs.declared.Record.{Record}
 use Rattle.board_log.specs.Cursor.{Found, found, end, read_at}
-use Rattle.checker.specs.declared.Judgement.{Judgement}
+use Rattle.checker.specs.declared.Standing.{Standing}
 use Rattle.checker.specs.declared.Verdict.{Verdict}
 
 -- the verdict in the papers' numbers: accepted, or the refusal with the offset of the record at fault; and the registers that the records
@@ -23,17 +24,12 @@ pub record Checked : Type 0 where
   pub judged : Judged
   pub registers : Registers
 
-abbrev pub judgement_outcome : Judgement → Judged
-judgement_outcome Judgement.Accepted = accepted
-judgement_outcome (Judgement.Refused n at) = refused_at (number_of n) at
+abbrev pub judgement_outcome : Result (Unit {0}) Fault → Judged
+judgement_outcome (Ok kept) = accepted
+judgement_outcome (Err f) = refused_at (number_of f.refusal) f.offset
 
 abbrev pub verdict_outcome : Verdict → Checked
 verdict_outcome v = record { judged = judgement_outcome v.judgement; registers = v.registers }
-
--- what the records before a place leave: the second of the last mark, 0 before the first, and the registers in force
-pub record Standing : Type 0 where
-  pub second : ℕ
-  pub registers : Registers
 
 -- no processor is enabled or N ≤ C
 unfoldable pub within_period : Registers → Bool

@@ -3,99 +3,127 @@
 #![tactic(auto)]
 
 ghost use Rattle.std.specs.Prelude.{◌≡◌, true};
+ghost use Rattle.refusal.specs.Outcome.{given, answer_outcome};
 ghost use Rattle.refusal.specs.Number.{number_of};
 ghost use Rattle.registers.specs.Access.{is_id};
-ghost use Rattle.board_log.specs.Cursor.{read_outcome};
-ghost use Rattle.checker.specs.Check.{judgement_outcome, verdict_outcome, within_period, stores_sent, check_mark, refusal_of_read, end_judgement, commands_checked};
-ghost use Rattle.checker.specs.Private.{allowed_outcome, judgement_without_record};
+ghost use Rattle.board_log.specs.Format.{checked};
+ghost use Rattle.checker.specs.Check.{verdict_outcome, within_period, at_start, refusal_of_read, step_at, commands_checked};
+ghost use Rattle.checker.specs.Private.{kept_outcome, step_outcome};
 
-use board_log::{Command, Read, Record};
-use refusal::Refusal;
+use board_log::{Command, Record};
+use refusal::{Fault, Refusal};
 use registers::Registers;
 
-// Accepted, or the refusal with the offset of the first record at fault, which is the list's length where its end is at fault.
-#[derive(Clone, Copy)]
-pub enum Judgement {
-    Accepted,
-    Refused(Refusal, usize),
-}
-
-// The judgement, and the registers that the records before the end or before the one at fault leave.
+// The judgement, accepted or the first record at fault, whose offset is the list's length where its end is at fault; and the registers that
+// the records before the end or before the one at fault leave.
 #[derive(Clone, Copy)]
 pub struct Verdict {
-    pub judgement: Judgement,
+    pub judgement: Result<(), Fault>,
     pub registers: Registers,
 }
 
-// Whether a second mark keeps the rules, or its refusal.
+// What the records before a place leave: the second of the last mark, 0 before the first, and the registers in force.
 #[derive(Clone, Copy)]
-enum Allowed {
-    Kept,
-    Refused(Refusal),
+struct Standing {
+    second: u32,
+    registers: Registers,
+}
+
+// A place in the list, and what the records before it leave.
+#[derive(Clone, Copy)]
+struct Cursor {
+    at: usize,
+    standing: Standing,
 }
 
 // Whether no processor is enabled or N is at most C.
+#[tactic(auto, unfolding(crate::specs::Check::within_period))]
 fn is_within_period(registers: Registers) -> bool
     ensures { result ≡ within_period registers }
 {
-    if settings::averaged_spectra(registers) <= settings::period_ticks(registers) {
-        return true;
-    }
     settings::enabled_count(registers) == 0
-}
-
-// Whether the register of a command stores exactly the value sent.
-fn stores_sent(command: Command) -> bool
-    requires { is_id command.id ≡ true }
-    ensures { result ≡ stores_sent command }
-{
-    let n = (command.id - Registers::FIRST_ID) as usize;
-    registers::stored_at(n, command.information) == command.information
-}
-
-// A second mark after one of a second: refused by 19 where it is smaller, then by 21.
-fn check_mark(mark: u32, second: u32, registers: Registers) -> Allowed
-    ensures { allowed_outcome result ≡ check_mark (record { second = second; registers = registers }) mark }
-{
-    if mark < second {
-        return Allowed::Refused(Refusal::SecondFalls);
-    }
-    if is_within_period(registers) {
-        Allowed::Kept
-    } else {
-        Allowed::Refused(Refusal::AveragesOverPeriod)
-    }
+        || settings::averaged_spectra(registers) <= settings::period_ticks(registers)
 }
 
 // The refusal for a read that was refused: a word of an APID that is not kept is a word all the same, and 18 comes before 4.
 fn refusal_of_read(refusal: Refusal) -> Refusal
     ensures { number_of result ≡ refusal_of_read (number_of refusal) }
 {
-    if refusal::number(refusal) == 4 {
-        return Refusal::KindNotInProfile;
-    }
-    refusal
-}
-
-// The judgement at the list's end, at a place.
-fn end_judgement(registers: Registers, at: usize) -> Judgement
-    ensures { judgement_outcome result ≡ end_judgement registers at }
-{
-    if is_within_period(registers) {
-        Judgement::Accepted
-    } else {
-        Judgement::Refused(Refusal::AveragesOverPeriod, at)
+    match refusal {
+        Refusal::UnknownApid => Refusal::KindNotInProfile,
+        _ => refusal,
     }
 }
 
-// The judgement for a read at a place that gave no record.
-fn judgement_without_record(read: Read, registers: Registers, at: usize) -> Judgement
-    ensures { judgement_outcome result ≡ judgement_without_record (read_outcome read) registers at }
-{
-    if let Read::Refused(refusal) = read {
-        Judgement::Refused(refusal_of_read(refusal), at)
-    } else {
-        end_judgement(registers, at)
+impl Standing {
+    // Before the first record: any second may come, and registers are at reset.
+    fn start() -> Self
+        ensures { result ≡ at_start }
+    {
+        Standing {
+            second: 0,
+            registers: Registers::reset(),
+        }
+    }
+
+    // After a command: refused by 20 where its register would not store exactly the value sent.
+    fn store(self, command: Command) -> Result<Standing, Refusal>
+        requires { is_id command.id ≡ true }
+        ensures { answer_outcome result ≡ kept_outcome self (Record.Command command) }
+    {
+        let n = (command.id - Registers::FIRST_ID) as usize;
+        let stored = registers::stored_at(n, command.information);
+        if stored != command.information {
+            return Err(Refusal::ValueAltered);
+        }
+        let mut next = self;
+        next.registers.value[n] = stored;
+        Ok(next)
+    }
+
+    // After a second mark: refused by 19 where it is smaller than the one before it, then by 21.
+    fn mark(self, second: u32) -> Result<Standing, Refusal>
+        ensures { answer_outcome result ≡ kept_outcome self (Record.SecondMark second) }
+    {
+        if second < self.second {
+            return Err(Refusal::SecondFalls);
+        }
+        if !is_within_period(self.registers) {
+            return Err(Refusal::AveragesOverPeriod);
+        }
+        Ok(Standing { second, ..self })
+    }
+
+    // After a record: refused by 18 where it is neither.
+    fn keep(self, entry: Record) -> Result<Standing, Refusal>
+        requires { checked entry ≡ given entry }
+        ensures { answer_outcome result ≡ kept_outcome self entry }
+    {
+        match entry {
+            Record::Command(command) => self.store(command),
+            Record::SecondMark(second) => self.mark(second),
+            Record::Word(_) | Record::Tick => Err(Refusal::KindNotInProfile),
+        }
+    }
+}
+
+impl Cursor {
+    // The cursor after the record at its place: none at the list's end.
+    fn next(self, log: &[u8]) -> Result<Option<Cursor>, Refusal>
+        ensures { step_outcome self result ≡ step_at log.now self.at self.standing }
+    {
+        let read = board_log::read_at(log, self.at).map_err(refusal_of_read)?;
+        let Some(entry) = read else {
+            if !is_within_period(self.standing.registers) {
+                return Err(Refusal::AveragesOverPeriod);
+            }
+            return Ok(None);
+        };
+        let standing = self.standing.keep(entry.record)?;
+        Ok(Some(Cursor {
+            at: entry.next,
+            standing,
+        }))
     }
 }
 
@@ -103,51 +131,28 @@ fn judgement_without_record(read: Read, registers: Registers, at: usize) -> Judg
 pub fn check(log: &[u8]) -> Verdict
     ensures { verdict_outcome result ≡ commands_checked log.now }
 {
-    let mut at: usize = 0;
-    // the second of the last mark, and the registers in force
-    let mut second: u32 = 0;
-    let mut registers = Registers::reset();
+    let mut cursor = Cursor {
+        at: 0,
+        standing: Standing::start(),
+    };
     loop {
-        let read = board_log::read_at(log, at);
-        let Read::Record(entry, after) = read else {
-            return Verdict {
-                judgement: judgement_without_record(read, registers, at),
-                registers,
-            };
-        };
-        match entry {
-            Record::Command(command) => {
-                if !stores_sent(command) {
-                    return Verdict {
-                        judgement: Judgement::Refused(Refusal::ValueAltered, at),
-                        registers,
-                    };
-                }
-                registers.value[(command.id - Registers::FIRST_ID) as usize] = command.information;
-            }
-            Record::SecondMark(mark) => {
-                let allowed = check_mark(mark, second, registers);
-                if let Allowed::Refused(refusal) = allowed {
-                    return Verdict {
-                        judgement: Judgement::Refused(refusal, at),
-                        registers,
-                    };
-                }
-                second = mark;
-            }
-            Record::Word(_) => {
+        match cursor.next(log) {
+            Ok(Some(later)) => cursor = later,
+            Ok(None) => {
                 return Verdict {
-                    judgement: Judgement::Refused(Refusal::KindNotInProfile, at),
-                    registers,
+                    judgement: Ok(()),
+                    registers: cursor.standing.registers,
                 };
             }
-            Record::Tick => {
+            Err(refusal) => {
                 return Verdict {
-                    judgement: Judgement::Refused(Refusal::KindNotInProfile, at),
-                    registers,
+                    judgement: Err(Fault {
+                        refusal,
+                        offset: cursor.at,
+                    }),
+                    registers: cursor.standing.registers,
                 };
             }
         }
-        at = after;
     }
 }

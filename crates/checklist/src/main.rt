@@ -2,25 +2,11 @@
 // fails, it prints nothing on standard output and says so on standard error; a failed write is named there too.
 #![tactic(auto)]
 
-use input::{Input, fail, read_input};
-use refusal::Written;
+use input::{fail, read_input};
 use std::io::{Read, Write};
 
 // The longest list that is checked.
 const MOST: usize = 1048576;
-
-// Prints the verdict on a list, made in out.
-fn print<W: Write>(rt: &(impl Eprint + Alloc), writer: &mut W, list: &[u8], out: &mut [u8]) {
-    match listing::verdict_line(checker::check(list), out) {
-        Written::Count(k) => {
-            if let Err(e) = writer.write_all(&out[..k]) {
-                fail(rt, "checklist: standard output", e);
-            }
-        }
-        // Never from main: its out has room for every line, and its offsets have at most seven digits.
-        Written::Refused(_) => {}
-    }
-}
 
 // Says that the list is too long. Where that fails, there is nowhere left to say so.
 fn turn_away(rt: &impl Eprint) {
@@ -35,15 +21,19 @@ fn check<R: Read, W: Write>(
     list: &mut [u8],
     out: &mut [u8],
 ) {
-    match read_input(reader, list) {
-        Input::Bytes(n) => {
-            if n > MOST {
-                turn_away(rt);
-            } else {
-                print(rt, writer, &list[..n], out);
-            }
-        }
-        Input::Failed(e) => fail(rt, "checklist: standard input", e),
+    let n = match read_input(reader, list) {
+        Ok(n) => n,
+        Err(e) => return fail(rt, "checklist: standard input", e),
+    };
+    if n > MOST {
+        return turn_away(rt);
+    }
+    // Never refused from main: its out has room for every line, and its offsets have at most seven digits.
+    let Ok(k) = listing::verdict_line(checker::check(&list[..n]), out) else {
+        return;
+    };
+    if let Err(e) = writer.write_all(&out[..k]) {
+        fail(rt, "checklist: standard output", e);
     }
 }
 

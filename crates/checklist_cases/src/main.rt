@@ -2,11 +2,9 @@
 // tools/cases/checklist.py writes the input and the expected output, the latter from a model of its own.
 #![tactic(auto)]
 
-ghost use Rattle.std.specs.Prelude.{◌+◌, ◌<◌, ◌≤◌, length, IfOk};
-
-use checker::{Judgement, Verdict};
-use input::{Input, read_input};
-use refusal::{Refusal, Written};
+use checker::Verdict;
+use input::read_input;
+use refusal::{Fault, Refusal};
 use registers::Registers;
 use std::io;
 use std::io::{BufWriter, Read, Write};
@@ -22,7 +20,10 @@ fn expect<W: Write>(writer: &mut W, ok: bool) -> io::Result<()> {
 // A verdict that no list of this program has.
 fn refused_at(offset: usize) -> Verdict {
     Verdict {
-        judgement: Judgement::Refused(Refusal::UnknownCommand, offset),
+        judgement: Err(Fault {
+            refusal: Refusal::UnknownCommand,
+            offset,
+        }),
         registers: Registers::reset(),
     }
 }
@@ -30,42 +31,23 @@ fn refused_at(offset: usize) -> Verdict {
 // Prints the line of a verdict, made in out.
 fn show<W: Write>(writer: &mut W, verdict: Verdict, out: &mut [u8]) -> io::Result<()> {
     match listing::verdict_line(verdict, out) {
-        Written::Count(n) => {
-            writer.write_all(&out[..n])?;
-        }
-        Written::Refused(_) => {
-            writer.write_all(b"refused\n")?;
-        }
+        Ok(n) => writer.write_all(&out[..n]),
+        Err(_) => writer.write_all(b"refused\n"),
     }
-    Ok(())
-}
-
-fn case_length(high: u8, low: u8) -> usize
-    ensures { result ≤ 65535 }
-{
-    256 * (high as usize) + low as usize
-}
-
-// Shows the verdict on the case at index at, where it lies within input; answers the index after it.
-fn show_case<W: Write>(writer: &mut W, input: &[u8], at: usize, out: &mut [u8]) -> io::Result<usize>
-    requires { at + 2 ≤ length input.now }
-    ensures { IfOk result (λ next. (at < next) × (next ≤ length input.now + 65535)) }
-{
-    let from = at + 2;
-    let next = from + case_length(input[at], input[at + 1]);
-    if next <= input.len() {
-        show(writer, checker::check(&input[from..next]), out)?;
-    }
-    Ok(next)
 }
 
 // Shows the verdict on each case of input: two bytes of length, high byte first, and the list.
 fn show_cases<W: Write>(writer: &mut W, input: &[u8], out: &mut [u8]) -> io::Result<()> {
-    let mut at: usize = 0;
-    while at + 2 <= input.len() {
-        at = show_case(writer, input, at, out)?;
+    let mut rest = input;
+    while let Some((length, behind)) = rest.split_first_chunk() {
+        let length = u16::from_be_bytes(*length) as usize;
+        let Some((case, after)) = behind.split_at_checked(length) else {
+            break;
+        };
+        show(writer, checker::check(case), out)?;
+        rest = after;
     }
-    expect(writer, at == input.len())
+    expect(writer, rest.is_empty())
 }
 
 // Shows the cases of standard input, which is read into input.
@@ -75,7 +57,7 @@ fn show_input<R: Read, W: Write>(
     input: &mut [u8],
     out: &mut [u8],
 ) -> io::Result<()> {
-    let Input::Bytes(n) = read_input(reader, input) else {
+    let Ok(n) = read_input(reader, input) else {
         return expect(writer, false);
     };
     show_cases(writer, &input[..n], out)?;

@@ -9,7 +9,7 @@ ghost use Rattle.registers.specs.Store.{band_count};
 ghost use Rattle.coarse.specs.Coarse.{totals_taken, coarse_totals, coarse_outcome};
 ghost use Rattle.coarse.specs.Private.{run_sums, RunsOfLength};
 
-use refusal::{Refusal, Written};
+use refusal::Refusal;
 
 // The number of fine totals.
 pub const FINE_TOTALS: usize = 112;
@@ -24,12 +24,7 @@ const LAST_TARGET: u8 = 1;
 fn are_taken(fine: &[u64]) -> bool
     ensures { result ≡ totals_taken fine.now }
 {
-    for i in 0..fine.len() {
-        if MOST_TOTAL < fine[i] {
-            return false;
-        }
-    }
-    true
+    fine.iter().all(|total| *total <= MOST_TOTAL)
 }
 
 // The sum of the totals of a run.
@@ -38,11 +33,7 @@ fn run_sum(run: &[u64]) -> u64
     requires run_value { totals_taken run.now ≡ true }
     ensures { result ≡ sum_to (length run.now) (λ j. get_or run.now j 0) }
 {
-    let mut total: u64 = 0;
-    for i in 0..run.len() {
-        total += run[i];
-    }
-    total
+    run.iter().sum()
 }
 
 // Writes the sums of runs of one length.
@@ -50,9 +41,9 @@ fn put_runs(fine: &[u64], out: &mut [u64], len: usize)
     requires { RunsOfLength len fine.now out.old }
     ensures { out.new ≡ run_sums len (length out.old) fine.now }
 {
-    for i in 0..out.len() {
+    for (i, total) in out.iter_mut().enumerate() {
         let k = i * len;
-        out[i] = run_sum(&fine[k..k + len]);
+        *total = run_sum(&fine[k..k + len]);
     }
 }
 
@@ -93,23 +84,23 @@ fn put_totals(setting: u8, fine: &[u64], out: &mut [u64])
 }
 
 // Converts 112 totals to those of 36 bands (setting 0) or 64 (setting 1); answers how many were written. Refused by 12, then 2, then 24.
-pub fn coarse_totals(setting: u8, fine: &[u64], out: &mut [u64]) -> Written
+pub fn coarse_totals(setting: u8, fine: &[u64], out: &mut [u64]) -> Result<usize, Refusal>
     ensures { filled result out.new ≡ coarse_outcome setting fine.now out.old }
 {
     if LAST_TARGET < setting {
-        return Written::Refused(Refusal::OutOfRange);
+        return Err(Refusal::OutOfRange);
     }
     let i = setting as usize;
     let bands = registers::BAND_COUNTS[i] as usize;
     if fine.len() != FINE_TOTALS {
-        return Written::Refused(Refusal::WrongLength);
+        return Err(Refusal::WrongLength);
     }
     if out.len() < bands {
-        return Written::Refused(Refusal::WrongLength);
+        return Err(Refusal::WrongLength);
     }
     if !are_taken(fine) {
-        return Written::Refused(Refusal::TotalTooLarge);
+        return Err(Refusal::TotalTooLarge);
     }
     put_totals(setting, fine, out);
-    Written::Count(bands)
+    Ok(bands)
 }

@@ -6,10 +6,13 @@
 
 ghost use Rattle.std.specs.Prelude.{◌≡◌, ◌+◌, ◌*◌, ◌≤◌, length, IfOk};
 
-use input::{Input, read_input};
-use refusal::Written;
+use input::read_input;
+use refusal::Refusal;
 use std::io;
 use std::io::{BufWriter, Read, Write};
+
+// The bytes of a case.
+const CASE: usize = 907;
 
 // Prints a line that the expected output does not have, unless ok.
 fn expect<W: Write>(writer: &mut W, ok: bool) -> io::Result<()> {
@@ -25,57 +28,33 @@ fn at_most<W: Write>(writer: &mut W, n: u8, most: usize) -> io::Result<usize>
 {
     let length = n as usize;
     expect(writer, length <= most)?;
-    Ok(if length <= most { length } else { most })
+    Ok(length.min(most))
 }
 
-// 32 bits of four bytes, high byte first.
-fn quad(a: u8, b: u8, c: u8, d: u8) -> u64 {
-    a as u64 * 16777216 + b as u64 * 65536 + c as u64 * 256 + d as u64
-}
-
-// Eight bytes from a place on, high byte first.
-fn total(bytes: &[u8], at: usize) -> u64
-    requires { at + 8 ≤ length bytes.now }
-{
-    let high = quad(bytes[at], bytes[at + 1], bytes[at + 2], bytes[at + 3]);
-    let low = quad(bytes[at + 4], bytes[at + 5], bytes[at + 6], bytes[at + 7]);
-    high % 4294967296 * 4294967296 + low % 4294967296
-}
-
-// Fills totals from bytes, eight for each.
-fn get_totals(bytes: &[u8], totals: &mut [u64])
-    requires { 8 * length totals.old ≤ length bytes.now }
-{
-    let mut i = 0;
-    while i < totals.len() {
-        totals[i] = total(bytes, 8 * i);
-        i += 1;
+// Fills totals from bytes, eight for each, high byte first.
+fn get_totals(bytes: &[u8], totals: &mut [u64]) {
+    let (eights, _) = bytes.as_chunks::<8>();
+    for (place, eight) in totals.iter_mut().zip(eights) {
+        *place = u64::from_be_bytes(*eight);
     }
 }
 
 fn show_totals<W: Write>(writer: &mut W, totals: &[u64; 66]) -> io::Result<()> {
-    for i in 0..66usize {
-        write!(writer, " {}", totals[i])?;
+    for total in totals {
+        write!(writer, " {total}")?;
     }
     writer.write_all(b"\n")
 }
 
-fn show_written<W: Write>(writer: &mut W, written: Written) -> io::Result<()> {
+fn show_written<W: Write>(writer: &mut W, written: Result<usize, Refusal>) -> io::Result<()> {
     match written {
-        Written::Count(n) => {
-            write!(writer, "{n}")?;
-        }
-        Written::Refused(refusal) => {
-            write!(writer, "refused {}", refusal::number(refusal))?;
-        }
+        Ok(n) => write!(writer, "{n}"),
+        Err(refusal) => write!(writer, "refused {}", refusal::number(refusal)),
     }
-    Ok(())
 }
 
 // Converts the totals of a case, over an output that held 7 everywhere.
-fn show_case<W: Write>(writer: &mut W, case: &[u8]) -> io::Result<()>
-    requires { 907 ≡ length case.now }
-{
+fn show_case<W: Write>(writer: &mut W, case: &[u8; CASE]) -> io::Result<()> {
     let mut fine = [0u64; 113];
     let mut out = [7u64; 66];
     let n = at_most(writer, case[1], 113)?;
@@ -88,27 +67,25 @@ fn show_case<W: Write>(writer: &mut W, case: &[u8]) -> io::Result<()>
     show_totals(writer, &out)
 }
 
-// Shows each case of the first n bytes of input.
-fn show_cases<W: Write>(writer: &mut W, input: &[u8], n: usize) -> io::Result<()>
-    requires { (n ≤ length input.now) × (n + 907 ≤ 4294967296) }
-{
-    let mut at: usize = 0;
-    while at + 907 <= n {
-        let next = at + 907;
-        show_case(writer, &input[at..next])?;
-        at = next;
+// Shows each case of input.
+fn show_cases<W: Write>(writer: &mut W, input: &[u8]) -> io::Result<()> {
+    let (cases, rest) = input.as_chunks::<CASE>();
+    for case in cases {
+        show_case(writer, case)?;
     }
-    expect(writer, at == n)
+    expect(writer, rest.is_empty())
 }
 
 // Shows the cases of standard input, which is read into input.
-fn show_input<R: Read, W: Write>(reader: &mut R, writer: &mut W, input: &mut [u8]) -> io::Result<()>
-    requires { length input.old + 907 ≤ 4294967296 }
-{
-    let Input::Bytes(n) = read_input(reader, input) else {
+fn show_input<R: Read, W: Write>(
+    reader: &mut R,
+    writer: &mut W,
+    input: &mut [u8],
+) -> io::Result<()> {
+    let Ok(n) = read_input(reader, input) else {
         return expect(writer, false);
     };
-    show_cases(writer, input, n)
+    show_cases(writer, &input[..n])
 }
 
 fn main(rt: HostRuntime) -> io::Result<()> {

@@ -2,24 +2,11 @@
 #![tactic(auto)]
 
 ghost use Rattle.std.specs.Prelude.{◌≡◌};
+ghost use Rattle.refusal.specs.Outcome.{answer_outcome};
 ghost use Rattle.codes.specs.Code.{exponent, band_code, sum_code};
-ghost use Rattle.codes.specs.Expanded.{band_value_outcome, band_expanded, sum_value_outcome, sum_expanded};
+ghost use Rattle.codes.specs.Expanded.{band_expanded, sum_expanded};
 
 use refusal::Refusal;
-
-// What a band code stands for, or refusal 7.
-#[derive(Clone, Copy)]
-pub enum BandValue {
-    Value(u64),
-    Refused(Refusal),
-}
-
-// What a sum code stands for, or refusal 8.
-#[derive(Clone, Copy)]
-pub enum SumValue {
-    Value(u64),
-    Refused(Refusal),
-}
 
 // The least exponent at which a value fits a mantissa of so many bits: its binary digits beyond that width.
 pub fn exponent(v: u64, width: u32) -> u32
@@ -51,32 +38,32 @@ pub fn compress_sum(v: u64) -> u16
 }
 
 // The value of a legal band code; refusal 7 for any other code.
-pub fn expand_band(code: u8) -> BandValue
-    ensures { band_value_outcome result ≡ band_expanded code }
+pub fn expand_band(code: u8) -> Result<u64, Refusal>
+    ensures { answer_outcome result ≡ band_expanded code }
 {
     let e = code / 8;
     let m = code % 8;
     if e == 0 {
-        return BandValue::Value(m as u64);
+        return Ok(m as u64);
     }
     if 0xF4 < code {
-        return BandValue::Refused(Refusal::IllegalBandCode);
+        return Err(Refusal::IllegalBandCode);
     }
     if m < 4 {
-        return BandValue::Refused(Refusal::IllegalBandCode);
+        return Err(Refusal::IllegalBandCode);
     }
-    BandValue::Value((m as u64) << e)
+    Ok((m as u64) << e)
 }
 
 // The value of a sum code, reduced or not; refusal 8 where it is 2^64 or more.
-pub fn expand_sum(code: u16) -> SumValue
-    ensures { sum_value_outcome result ≡ sum_expanded code }
+pub fn expand_sum(code: u16) -> Result<u64, Refusal>
+    ensures { answer_outcome result ≡ sum_expanded code }
 {
     let e = code / 1024;
     let m = (code % 1024) as u64;
     if m <= u64::MAX >> e {
-        SumValue::Value(m << e)
+        Ok(m << e)
     } else {
-        SumValue::Refused(Refusal::SumCodeOverflow)
+        Err(Refusal::SumCodeOverflow)
     }
 }

@@ -3,12 +3,10 @@
 // model of its own.
 #![tactic(auto)]
 
-ghost use Rattle.std.specs.Prelude.{◌+◌, ◌<◌, ◌≤◌, length};
-
 use counting::Counted;
-use counts::{Counts, Ending, Tally};
-use input::{Input, read_input};
-use refusal::Written;
+use counts::{Counts, Tally};
+use input::read_input;
+use refusal::Refusal;
 use registers::Registers;
 use std::io;
 use std::io::{BufWriter, Read, Write};
@@ -18,13 +16,64 @@ const HEADER: usize = 8;
 
 const MOST_SAMPLES: usize = 16;
 
-// The header of an operation.
+// An operation: a log begun empty, the calls of the writer, those that hand the next call a state that is not its own, and all of the log.
 #[derive(Clone, Copy)]
-struct Operation {
-    op: u8,
-    a: u8,
-    b: u16,
-    c: u32,
+enum Operation {
+    Begin { capacity: usize },
+    Command { id: u8, information: u16 },
+    Count { place: usize, count: u64 },
+    Mark { seconds: u32 },
+    Tick,
+    Set { apid: u8, samples: u16 },
+    Report { bytes: usize },
+    Show,
+    Register { n: usize, value: u16 },
+    Used { used: usize },
+}
+
+impl Operation {
+    // The operation of a header: its number, a, b in two bytes and c in four.
+    fn of(header: [u8; HEADER]) -> Operation {
+        let [op, a, b_high, b_low, c_first, c_second, c_third, c_fourth] = header;
+        let b = u16::from_be_bytes([b_high, b_low]);
+        match op {
+            0 => Operation::Begin {
+                capacity: b as usize,
+            },
+            1 => Operation::Command {
+                id: a,
+                information: b,
+            },
+            2 => Operation::Count {
+                place: a as usize,
+                count: b as u64,
+            },
+            3 => Operation::Mark {
+                seconds: u32::from_be_bytes([c_first, c_second, c_third, c_fourth]),
+            },
+            4 => Operation::Tick,
+            5 => Operation::Set {
+                apid: a,
+                samples: b,
+            },
+            6 => Operation::Report { bytes: b as usize },
+            7 => Operation::Show,
+            8 => Operation::Register {
+                n: a as usize,
+                value: b,
+            },
+            _ => Operation::Used { used: b as usize },
+        }
+    }
+
+    // The bytes of its data.
+    fn data_length(self) -> usize {
+        match self {
+            Operation::Set { samples, .. } => 2 * samples as usize,
+            Operation::Report { bytes } => bytes,
+            _ => 0,
+        }
+    }
 }
 
 // What is kept between the calls beside the log.
@@ -42,95 +91,67 @@ fn expect<W: Write>(writer: &mut W, ok: bool) -> io::Result<()> {
     Ok(())
 }
 
-fn show_number<W: Write>(writer: &mut W, n: u64) -> io::Result<()> {
-    write!(writer, "{n:04x}")
-}
-
 fn show_counts<W: Write>(writer: &mut W, counts: Counts) -> io::Result<()> {
-    for n in 0..Counts::LENGTH {
-        show_number(writer, counts.value[n])?;
+    for count in counts.value {
+        write!(writer, "{count:04x}")?;
     }
     Ok(())
 }
 
 fn show_registers<W: Write>(writer: &mut W, registers: Registers) -> io::Result<()> {
-    for n in 0..Registers::COUNT {
-        show_number(writer, registers.value[n] as u64)?;
+    for value in registers.value {
+        write!(writer, "{value:04x}")?;
     }
     Ok(())
 }
 
-fn show_answer<W: Write>(writer: &mut W, answer: Written) -> io::Result<()> {
+fn show_answer<W: Write>(writer: &mut W, answer: Result<usize, Refusal>) -> io::Result<()> {
     match answer {
-        Written::Count(used) => {
-            writer.write_all(b"U")?;
-            show_number(writer, used as u64)?;
-        }
-        Written::Refused(refusal) => {
-            writer.write_all(b"R")?;
-            show_number(writer, refusal::number(refusal) as u64)?;
-        }
+        Ok(used) => write!(writer, "U{used:04x}"),
+        Err(refusal) => write!(writer, "R{:04x}", refusal::number(refusal)),
     }
-    Ok(())
 }
 
 // Prints what the walk finds in a log.
 fn show_walked<W: Write>(writer: &mut W, log: &[u8]) -> io::Result<()> {
     let count = counts::count_sets(log);
-    let ending = count.ending;
-    let tally = count.tally;
-    match ending {
-        Ending::End(_) => {
+    match count.ending {
+        Ok(_) => {
             writer.write_all(b"E")?;
-            show_counts(writer, tally.counts)?;
-            show_registers(writer, tally.registers)?;
+            show_counts(writer, count.tally.counts)?;
+            show_registers(writer, count.tally.registers)
         }
-        Ending::Refused(refusal, at) => {
-            writer.write_all(b"B")?;
-            show_number(writer, refusal::number(refusal) as u64)?;
-            show_number(writer, at as u64)?;
+        Err(fault) => {
+            let number = refusal::number(fault.refusal);
+            write!(writer, "B{number:04x}{:04x}", fault.offset)
         }
     }
-    Ok(())
 }
 
 // Prints what the walk finds in the bytes used.
 fn show_used<W: Write>(writer: &mut W, log: &[u8], used: usize) -> io::Result<()> {
     if used <= log.len() {
-        show_walked(writer, &log[0..used])?;
+        show_walked(writer, &log[..used])
     } else {
-        writer.write_all(b"-")?;
+        writer.write_all(b"-")
     }
-    Ok(())
-}
-
-fn show_byte<W: Write>(writer: &mut W, byte: u8) -> io::Result<()> {
-    write!(writer, "{byte:02x}")
 }
 
 // Prints all of a log.
 fn show_log<W: Write>(writer: &mut W, log: &[u8]) -> io::Result<()> {
     writer.write_all(b"L ")?;
-    for i in 0..log.len() {
-        show_byte(writer, log[i])?;
+    for byte in log {
+        write!(writer, "{byte:02x}")?;
     }
     writer.write_all(b"\n")
 }
 
-// The bytes used after an answer.
-fn used_after(answer: Written, used: usize) -> usize {
-    match answer {
-        Written::Count(next) => next,
-        Written::Refused(_) => used,
-    }
-}
-
 // Prints what a call left.
 fn show_call<W: Write>(writer: &mut W, done: Counted, log: &[u8], used: usize) -> io::Result<Kept> {
-    let answer = done.answer;
     let tally = done.tally;
-    let next = used_after(answer, used);
-    show_answer(writer, answer)?;
+    // a refusal leaves the bytes used as they were
+    let next = done.answer.unwrap_or(used);
+    show_answer(writer, done.answer)?;
     writer.write_all(b" ")?;
     show_counts(writer, tally.counts)?;
     writer.write_all(b" ")?;
@@ -141,101 +162,31 @@ fn show_call<W: Write>(writer: &mut W, done: Counted, log: &[u8], used: usize) -
     Ok(Kept { used: next, tally })
 }
 
-// Reads samples of two bytes each.
-fn read_samples(bytes: &[u8], samples: &mut [i16], n: usize)
-    requires { (n + n ≤ length bytes.now) × (n ≤ length samples.old) }
-{
-    let mut i: usize = 0;
-    while i < n {
-        samples[i] = words::sample_of(words::pair(bytes[i + i], bytes[i + i + 1]));
-        i += 1;
-    }
-}
-
-// The number of samples in so many bytes, at most 16.
-fn sample_count(bytes: usize) -> usize
-    ensures { (result + result ≤ bytes) × (result ≤ 16) }
-{
-    if bytes < 2 * MOST_SAMPLES {
-        bytes / 2
-    } else {
-        MOST_SAMPLES
-    }
-}
-
+// A set of the first samples, of two bytes each.
 fn call_set(log: &mut [u8], kept: Kept, apid: u8, bytes: &[u8]) -> Counted {
     let mut samples = [0i16; MOST_SAMPLES];
-    let n = sample_count(bytes.len());
-    read_samples(bytes, &mut samples, n);
-    counting::set(log, kept.used, kept.tally, apid, &samples[0..n])
+    for (sample, pair) in samples.iter_mut().zip(bytes.chunks_exact(2)) {
+        *sample = i16::from_be_bytes([pair[0], pair[1]]);
+    }
+    let n = (bytes.len() / 2).min(MOST_SAMPLES);
+    counting::set(log, kept.used, kept.tally, apid, &samples[..n])
 }
 
-// The call of an operation.
-fn call(log: &mut [u8], kept: Kept, operation: Operation, bytes: &[u8]) -> Counted {
-    let op = operation.op;
-    if op == 1 {
-        return counting::command(log, kept.used, kept.tally, operation.a, operation.b);
+fn with_count(mut tally: Tally, place: usize, count: u64) -> Tally {
+    if let Some(kept) = tally.counts.value.get_mut(place) {
+        *kept = count;
     }
-    if op == 3 {
-        return counting::mark(log, kept.used, kept.tally, operation.c);
-    }
-    if op == 4 {
-        return counting::tick(log, kept.used, kept.tally);
-    }
-    if op == 5 {
-        return call_set(log, kept, operation.a, bytes);
-    }
-    counting::report(log, kept.used, kept.tally, bytes)
+    tally
 }
 
-fn with_count(tally: Tally, n: usize, count: u64) -> Tally {
-    let mut counts = tally.counts;
-    let registers = tally.registers;
-    if n < Counts::LENGTH {
-        counts.value[n] = count;
+fn with_register(mut tally: Tally, n: usize, value: u16) -> Tally {
+    if let Some(kept) = tally.registers.value.get_mut(n) {
+        *kept = value;
     }
-    Tally { counts, registers }
+    tally
 }
 
-fn with_register(tally: Tally, n: usize, value: u16) -> Tally {
-    let counts = tally.counts;
-    let mut registers = tally.registers;
-    if n < Registers::COUNT {
-        registers.value[n] = value;
-    }
-    Tally { counts, registers }
-}
-
-// The operations that hand the next call a state that is not its own.
-fn changed(kept: Kept, operation: Operation) -> Kept {
-    let op = operation.op;
-    let a = operation.a;
-    let b = operation.b;
-    let used = kept.used;
-    let tally = kept.tally;
-    if op == 2 {
-        return Kept {
-            used,
-            tally: with_count(tally, a as usize, b as u64),
-        };
-    }
-    if op == 8 {
-        return Kept {
-            used,
-            tally: with_register(tally, a as usize, b),
-        };
-    }
-    Kept {
-        used: b as usize,
-        tally,
-    }
-}
-
-fn is_call(op: u8) -> bool {
-    op == 1 || op == 3 || op == 4 || op == 5 || op == 6
-}
-
-// One operation on a log, but begin.
+// One operation on a log.
 fn operate<W: Write>(
     writer: &mut W,
     log: &mut [u8],
@@ -243,28 +194,35 @@ fn operate<W: Write>(
     operation: Operation,
     bytes: &[u8],
 ) -> io::Result<Kept> {
-    if operation.op == 7 {
-        show_log(writer, log)?;
-        return Ok(kept);
-    }
-    if is_call(operation.op) {
-        let done = call(log, kept, operation, bytes);
-        return show_call(writer, done, log, kept.used);
-    }
-    Ok(changed(kept, operation))
-}
-
-// The bytes of an operation's data.
-fn data_length(op: u8, b: u16) -> usize
-    ensures { result ≤ 131070 }
-{
-    if op == 5 {
-        2 * (b as usize)
-    } else if op == 6 {
-        b as usize
-    } else {
-        0
-    }
+    let Kept { used, tally } = kept;
+    let done = match operation {
+        Operation::Command { id, information } => {
+            counting::command(log, used, tally, id, information)
+        }
+        Operation::Mark { seconds } => counting::mark(log, used, tally, seconds),
+        Operation::Tick => counting::tick(log, used, tally),
+        Operation::Set { apid, .. } => call_set(log, kept, apid, bytes),
+        Operation::Report { .. } => counting::report(log, used, tally, bytes),
+        Operation::Begin { .. } => return Ok(kept),
+        Operation::Show => {
+            show_log(writer, log)?;
+            return Ok(kept);
+        }
+        Operation::Count { place, count } => {
+            return Ok(Kept {
+                used,
+                tally: with_count(tally, place, count),
+            });
+        }
+        Operation::Register { n, value } => {
+            return Ok(Kept {
+                used,
+                tally: with_register(tally, n, value),
+            });
+        }
+        Operation::Used { used } => return Ok(Kept { used, tally }),
+    };
+    show_call(writer, done, log, used)
 }
 
 // A log begun empty.
@@ -272,26 +230,6 @@ fn begun() -> Kept {
     Kept {
         used: 0,
         tally: Tally::empty(),
-    }
-}
-
-fn fill(log: &mut [u8]) {
-    for i in 0..log.len() {
-        log[i] = 0xEE;
-    }
-}
-
-// The operation whose header begins at an index.
-fn header(input: &[u8], at: usize) -> Operation
-    requires { at + 8 ≤ length input.now }
-{
-    let high = words::pair(input[at + 4], input[at + 5]);
-    let low = words::pair(input[at + 6], input[at + 7]);
-    Operation {
-        op: input[at],
-        a: input[at + 1],
-        b: words::pair(input[at + 2], input[at + 3]),
-        c: high as u32 * 65536 + low as u32,
     }
 }
 
@@ -305,7 +243,7 @@ fn operate_front<W: Write>(
     bytes: &[u8],
 ) -> io::Result<Kept> {
     if capacity <= log.len() {
-        operate(writer, &mut log[0..capacity], kept, operation, bytes)
+        operate(writer, &mut log[..capacity], kept, operation, bytes)
     } else {
         Ok(kept)
     }
@@ -313,26 +251,26 @@ fn operate_front<W: Write>(
 
 // The operations of input.
 fn run<W: Write>(writer: &mut W, input: &[u8], log: &mut [u8]) -> io::Result<()> {
-    let mut at: usize = 0;
+    let mut rest = input;
     let mut capacity: usize = 0;
     let mut kept = begun();
-    while at + HEADER <= input.len() {
-        let operation = header(input, at);
-        let from = at + HEADER;
-        let next = from + data_length(operation.op, operation.b);
-        if input.len() < next {
+    while let Some((header, data)) = rest.split_first_chunk::<HEADER>() {
+        let operation = Operation::of(*header);
+        let n = operation.data_length();
+        if data.len() < n {
             return expect(writer, false);
         }
-        if operation.op == 0 {
-            capacity = operation.b as usize;
-            kept = begun();
-            fill(log);
-        } else {
-            kept = operate_front(writer, log, capacity, kept, operation, &input[from..next])?;
+        match operation {
+            Operation::Begin { capacity: room } => {
+                capacity = room;
+                kept = begun();
+                log.fill(0xEE);
+            }
+            _ => kept = operate_front(writer, log, capacity, kept, operation, &data[..n])?,
         }
-        at = next;
+        rest = &data[n..];
     }
-    expect(writer, at == input.len())
+    expect(writer, rest.is_empty())
 }
 
 // Shows the cases of standard input, which is read into input.
@@ -342,7 +280,7 @@ fn show_input<R: Read, W: Write>(
     input: &mut [u8],
     log: &mut [u8],
 ) -> io::Result<()> {
-    let Input::Bytes(n) = read_input(reader, input) else {
+    let Ok(n) = read_input(reader, input) else {
         return expect(writer, false);
     };
     run(writer, &input[..n], log)?;

@@ -9,7 +9,9 @@ use Rattle.lists.proofs.Choices.{cond-at, both}
 use Rattle.codes.specs.Expanded.{band_expanded, sum_expanded}
 use Rattle.codes.proofs.Neighbours.{expanded-le}
 use Rattle.bands.specs.Band.{size_exponent, band_of}
-use Rattle.bands.specs.Answer.{band_found, band_described, CadenceValue, rate, period, cadence_of}
+use Rattle.bands.specs.Answer.{band_found, band_described, cadence_of}
+use Rattle.bands.specs.declared.Cadence.{Cadence}
+use Rattle.bands.specs.declared.Cadence.TheVariants.{Rate, Period}
 use Rattle.bands.proofs.Settings.{band-lt}
 use Rattle.registers.proofs.Counts.{bands-count}
 use Rattle.dfb_refusals.specs.Numbers.{above8, above16, above63}
@@ -40,9 +42,9 @@ unfolding band_written
 describe-band-apart setting band three =
     told-apart above16 _ (values-below above16 three_values (band_described setting band) three (λ d e. omega arith))
 
-cadence-below : (v : CadenceValue) → (cadence_value v).number < above16
-cadence-below (rate f) = omega arith
-cadence-below (period f) = omega arith
+cadence-below : (v : Cadence) → (cadence_value v).number < above16
+cadence-below (Rate f) = omega arith
+cadence-below (Period f) = omega arith
 
 pub cadence-apart : CadenceApart
 unfolding cadence_written

@@ -3,7 +3,9 @@ use Rattle.std.specs.Prelude.{ℕ, List, [], ◌∷◌, Float}
 use Rattle.refusal.specs.Outcome.{Filled}
 use Rattle.codes.specs.Expanded.{sum_expanded}
 use Rattle.bands.specs.declared.Description.{Description}
-use Rattle.bands.specs.Answer.{band_described, CadenceValue, rate, period, cadence_of}
+use Rattle.bands.specs.Answer.{band_described, cadence_of}
+use Rattle.bands.specs.declared.Cadence.{Cadence}
+use Rattle.bands.specs.declared.Cadence.TheVariants.{Rate, Period}
 use Rattle.dfb_refusals.specs.Numbers.{Values, values_written}
 
 -- one value, with answer 0
@@ -15,9 +17,9 @@ abbrev pub three_values : Description → Values Float
 three_values d = record { number = 0; values = d.low ∷ d.centre ∷ d.width ∷ [] }
 
 -- a rate per second with answer 0, or a period in seconds with answer 1
-abbrev pub cadence_value : CadenceValue → Values Float
-cadence_value (rate f) = record { number = 0; values = f ∷ [] }
-cadence_value (period f) = record { number = 1; values = f ∷ [] }
+abbrev pub cadence_value : Cadence → Values Float
+cadence_value (Rate f) = record { number = 0; values = f ∷ [] }
+cadence_value (Period f) = record { number = 1; values = f ∷ [] }
 
 -- the value of a sum code: refused by 8, then 2 for an empty list
 unfoldable pub sum_written : ℕ → List ℕ → Filled ℕ

@@ -2,15 +2,14 @@
 // C, and answers a number. A refusal is a base plus its number, which no other answer of the function equals, and changes nothing.
 #![tactic(auto)]
 
-ghost use Rattle.std.specs.Prelude.{◌≡◌, [], ◌∷◌};
+ghost use Rattle.std.specs.Prelude.{◌≡◌};
 ghost use Rattle.codes.specs.Code.{band_code, sum_code};
 ghost use Rattle.codes.specs.Expanded.{band_expanded};
 ghost use Rattle.bands.specs.Answer.{band_found};
 ghost use Rattle.dfb_refusals.specs.Numbers.{above8, above16, above63, outcome_number, FilledNumber, filled_number, values_put};
 ghost use Rattle.dfb_bands.specs.Values.{sum_written, band_written, cadence_written};
 
-use bands::{BandDescription, BandIndex, Cadence};
-use codes::{BandValue, SumValue};
+use bands::Cadence;
 use refusal::Refusal;
 
 // The band of an FFT bin. Refused by 12.
@@ -18,10 +17,21 @@ use refusal::Refusal;
 pub extern "C" fn dfb_band_of(setting: u8, bin: u16) -> u16
     ensures { result ≡ outcome_number above8 (band_found setting bin) }
 {
-    match bands::band_of(setting, bin) {
-        BandIndex::Band(band) => band as u16,
-        BandIndex::Refused(refusal) => 0x100 + refusal::number(refusal) as u16,
+    bands::band_of(setting, bin).map_or_else(
+        |refusal| 0x100 + refusal::number(refusal) as u16,
+        u16::from,
+    )
+}
+
+// Writes values to the front of a list and gives the answer. Refused by 2.
+fn put_values<T: Copy>(list: &mut [T], values: &[T], answer: u32) -> u32
+    ensures { record { answer = result; buffer = list.new } ≡ filled_number above16 (values_put (record { number = answer; values = values.now }) list.old) }
+{
+    if list.len() < values.len() {
+        return dfb_refusals::above_16(Refusal::WrongLength);
     }
+    list[..values.len()].copy_from_slice(values);
+    answer
 }
 
 // Writes low edge, centre and width of a band in hertz and answers 0. Refused by 12, then 2.
@@ -30,28 +40,13 @@ pub extern "C" fn dfb_describe_band(setting: u8, band: u8, three: &mut [f32]) ->
     ensures { record { answer = result; buffer = three.new } ≡ filled_number above16 (band_written setting band three.old) }
 {
     match bands::describe_band(setting, band) {
-        BandDescription::Described(description) => {
-            if three.len() < 3 {
-                return dfb_refusals::above_16(Refusal::WrongLength);
-            }
-            three[0] = description.low;
-            three[1] = description.centre;
-            three[2] = description.width;
-            0
-        }
-        BandDescription::Refused(refusal) => dfb_refusals::above_16(refusal),
+        Ok(description) => put_values(
+            three,
+            &[description.low, description.centre, description.width],
+            0,
+        ),
+        Err(refusal) => dfb_refusals::above_16(refusal),
     }
-}
-
-// Writes one value to a list and gives the answer. Refused by 2.
-fn put_value(list: &mut [f32], f: f32, answer: u32) -> u32
-    ensures { record { answer = result; buffer = list.new } ≡ filled_number above16 (values_put (record { number = answer; values = f ∷ [] }) list.old) }
-{
-    if list.len() < 1 {
-        return dfb_refusals::above_16(Refusal::WrongLength);
-    }
-    list[0] = f;
-    answer
 }
 
 // Writes a rate per second and answers 0, or a period in seconds and answers 1. Refused by 12, then 2.
@@ -60,9 +55,9 @@ pub extern "C" fn dfb_cadence_of(choice: u8, value: &mut [f32]) -> u32
     ensures { record { answer = result; buffer = value.new } ≡ filled_number above16 (cadence_written choice value.old) }
 {
     match bands::cadence_of(choice) {
-        Cadence::Rate(rate) => put_value(value, rate, 0),
-        Cadence::Period(period) => put_value(value, period, 1),
-        Cadence::Refused(refusal) => dfb_refusals::above_16(refusal),
+        Ok(Cadence::Rate(rate)) => put_values(value, &[rate], 0),
+        Ok(Cadence::Period(period)) => put_values(value, &[period], 1),
+        Err(refusal) => dfb_refusals::above_16(refusal),
     }
 }
 
@@ -79,10 +74,7 @@ pub extern "C" fn dfb_compress_band(value: u32) -> u8
 pub extern "C" fn dfb_expand_band(code: u8) -> u64
     ensures { result ≡ outcome_number above63 (band_expanded code) }
 {
-    match codes::expand_band(code) {
-        BandValue::Value(value) => value,
-        BandValue::Refused(refusal) => dfb_refusals::above_63(refusal),
-    }
+    codes::expand_band(code).unwrap_or_else(dfb_refusals::above_63)
 }
 
 // The sum code of a value.
@@ -99,13 +91,7 @@ pub extern "C" fn dfb_expand_sum(code: u16, value: &mut [u64]) -> u32
     ensures { record { answer = result; buffer = value.new } ≡ filled_number above16 (sum_written code value.old) }
 {
     match codes::expand_sum(code) {
-        SumValue::Value(v) => {
-            if value.len() < 1 {
-                return dfb_refusals::above_16(Refusal::WrongLength);
-            }
-            value[0] = v;
-            0
-        }
-        SumValue::Refused(refusal) => dfb_refusals::above_16(refusal),
+        Ok(v) => put_values(value, &[v], 0),
+        Err(refusal) => dfb_refusals::above_16(refusal),
     }
 }

@@ -1,20 +1,22 @@
 -- The cases of the functions that take a state: by the state's length. Assumes nothing.
+use Rattle.std.specs.Prelude.{Result, Err, Ok}
+use Rattle.refusal.specs.declared.Refusal.{Refusal}
+use Rattle.refusal.specs.Outcome.{answer_outcome}
 use mathlib.Core.Path.{◌≡◌, refl, ap, ◌∙◌}
 use mathlib.Core.List.{List}
 use Prim.Native.Nat.{ℕ, ◌+◌}
 use borrow.Author.Tests.{eq-eqb, ne_eqb}
 use lib.ListN.{length}
-use Rattle.registers.specs.declared.Answer.{Answer}
-use Rattle.registers.specs.Access.{answer_outcome, register_read}
+use Rattle.registers.specs.Access.{register_read}
 use Rattle.model.specs.Board.{command_reply, CommandOutcome, command_outcome, TickOutcome, tick_outcome}
 use Rattle.dfb_refusals.specs.Numbers.{above16, outcome_number}
 use Rattle.dfb_board.specs.State.{state_of, state_words}
 use Rattle.dfb_board.specs.Calls.{reply_number, CommandCall, command_left, command_call, TickCall, tick_left, tick_call, read_call}
 
 -- the number of a command's answer
-pub command-number : (a : Answer) (reports : ℕ) → outcome_number above16 (answer_outcome a) ≡ reply_number (command_reply (answer_outcome a)) reports
-command-number (Answer.Value v) reports = refl
-command-number (Answer.Refused n) reports = refl
+pub command-number : (a : Result ℕ Refusal) (reports : ℕ) → outcome_number above16 (answer_outcome a) ≡ reply_number (command_reply (answer_outcome a)) reports
+command-number (Ok v) reports = refl
+command-number (Err n) reports = refl
 
 -- what a call leaves, from what it computed and what was stored
 pub command-done : (n : ℕ) (l : List ℕ) {o p : CommandOutcome} → n ≡ reply_number o.answer o.state.reports → l ≡ state_words o.state → o ≡ p →

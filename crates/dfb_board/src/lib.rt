@@ -3,7 +3,7 @@
 #![tactic(auto)]
 
 ghost use Rattle.std.specs.Prelude.{◌≡◌, length};
-ghost use Rattle.registers.specs.Access.{answer_outcome};
+ghost use Rattle.refusal.specs.Outcome.{answer_outcome};
 ghost use Rattle.model.specs.Board.{tick_reply};
 ghost use Rattle.dfb_refusals.specs.Numbers.{above16, outcome_number};
 ghost use Rattle.dfb_board.specs.State.{state_of, state_words};
@@ -12,32 +12,29 @@ ghost use Rattle.dfb_board.specs.Calls.{reply_number, CommandCall, command_call,
 
 use model::{State, TickAnswer};
 use refusal::Refusal;
-use registers::{Answer, Registers};
+use registers::Registers;
 
 // The length of a state: seven registers, the phase and the number of reports.
 const STATE: usize = 9;
 
 // The answer of a command or a read.
-fn answer_16(answer: Answer) -> u32
+fn answer_16(answer: Result<u16, Refusal>) -> u32
     ensures { result ≡ outcome_number above16 (answer_outcome answer) }
 {
-    match answer {
-        Answer::Value(value) => value as u32,
-        Answer::Refused(refusal) => dfb_refusals::above_16(refusal),
-    }
+    answer.map_or_else(dfb_refusals::above_16, u32::from)
 }
 
 // The answer of a tick, with the number of reports of the state after it.
-fn tick_number(answer: TickAnswer, reports: u16) -> u32
+fn tick_number(answer: Result<TickAnswer, Refusal>, reports: u16) -> u32
     requires { Fits (tick_reply answer) reports }
     ensures { result ≡ reply_number (tick_reply answer) reports }
 {
     match answer {
-        TickAnswer::Idle => 0,
-        TickAnswer::Collected => 1,
-        TickAnswer::Waiting => 2,
-        TickAnswer::Reported(words) => 0x80000000 + words as u32 * 65536 + reports as u32,
-        TickAnswer::Refused(refusal) => dfb_refusals::above_16(refusal),
+        Ok(TickAnswer::Idle) => 0,
+        Ok(TickAnswer::Collected) => 1,
+        Ok(TickAnswer::Waiting) => 2,
+        Ok(TickAnswer::Reported(words)) => 0x80000000 + words as u32 * 65536 + reports as u32,
+        Err(refusal) => dfb_refusals::above_16(refusal),
     }
 }
 
@@ -46,9 +43,8 @@ fn load(state: &[u16]) -> State
     requires { length state.now ≡ 9 }
     ensures { result ≡ state_of state.now }
 {
-    let value = [
-        state[0], state[1], state[2], state[3], state[4], state[5], state[6],
-    ];
+    let mut value = [0u16; Registers::COUNT];
+    value.copy_from_slice(&state[..Registers::COUNT]);
     State {
         registers: Registers { value },
         phase: state[7],
@@ -61,14 +57,7 @@ fn store(state: &mut [u16], from: State)
     requires { length state.old ≡ 9 }
     ensures { state.new ≡ state_words from }
 {
-    let registers = from.registers;
-    state[0] = registers.value[0];
-    state[1] = registers.value[1];
-    state[2] = registers.value[2];
-    state[3] = registers.value[3];
-    state[4] = registers.value[4];
-    state[5] = registers.value[5];
-    state[6] = registers.value[6];
+    state[..Registers::COUNT].copy_from_slice(&from.registers.value);
     state[7] = from.phase;
     state[8] = from.reports;
 }
@@ -87,10 +76,8 @@ pub extern "C" fn dfb_command(
         return dfb_refusals::above_16(Refusal::WrongLength);
     }
     let done = board::command(load(state), totals, id, information);
-    let next = done.state;
-    store(state, next);
-    let answer = done.answer;
-    answer_16(answer)
+    store(state, done.state);
+    answer_16(done.answer)
 }
 
 // The value of the register of an ID. Refused by 2 for the state's length, then 3, then 1.
@@ -118,8 +105,6 @@ pub extern "C" fn dfb_tick(
         return dfb_refusals::above_16(Refusal::WrongLength);
     }
     let done = board::tick(load(state), totals, powers, out);
-    let next = done.state;
-    store(state, next);
-    let answer = done.answer;
-    tick_number(answer, next.reports)
+    store(state, done.state);
+    tick_number(done.answer, done.state.reports)
 }

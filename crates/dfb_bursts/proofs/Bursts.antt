@@ -1,16 +1,16 @@
 -- The slots of two lists, and the bounds of the answers. Assumes nothing.
 use Prim.Native.Nat.{ℕ, zero, suc, ◌+◌, ◌^◌, ◌≤◌, ◌<◌}
 use mathlib.Core.Path.{◌≡◌, refl, sym, ap, ◌∙◌, subst}
-use mathlib.Core.Bool.{Bool, true, false, cond, not}
+use mathlib.Core.Bool.{Bool, true, false, cond, not, ◌&&◌}
 use mathlib.Core.List.{List, [], ◌∷◌}
 use native.Mathlib.Omega.{arith}
-use borrow.Author.Tests.{lt-ltb, ltb-true, leb-true, le-leb, lt-leb, eq-eqb, ne_eqb, eqb-true, not-false}
+use borrow.Author.Tests.{lt-ltb, ltb-true, leb-true, eq-eqb, ne_eqb, eqb-true, not-false}
 use lib.Dec.{leb, ltb, eqb}
-use lib.ListN.{length, get_or}
+use lib.ListN.{length, get_or, replicate, get_or-replicate}
+use Rattle.std.specs.List.{list_all}
 use Rattle.lists.specs.Sums.{all_to}
 use Rattle.lists.specs.Tables.{tabulate, overwrite}
 use Rattle.lists.proofs.Choices.{both, cond-at}
-use Rattle.lists.proofs.Sums.{all_to-false}
 use Rattle.lists.proofs.Lowest.{lowest-le}
 use Rattle.lists.proofs.Overwriting.{overwrite-tabulate}
 use Rattle.bursts.specs.declared.Slot.{Slot}
@@ -25,19 +25,27 @@ use Rattle.dfb_refusals.proofs.Apart.{Below, given_below, refused-below}
 use Rattle.dfb_bursts.specs.Claims.{OfferParts}
 use Rattle.dfb_bursts.specs.Bursts.{are_slots, lists_refused, slot_from, slots_of, statuses, criteria_of, BurstCall, burst_left, slots_left, on_slots, done_call, offer_call}
 
-module _ (status : List ℕ) where
-  pub too_many : 32 < length status → false ≡ are_slots status
-  unfolding are_slots
-  too_many h = simp (lt-leb (length status) 32 h)
+all-first : (n : ℕ) (f : ℕ → Bool) → all_to (suc n) f ≡ (f 0 && all_to n (λ i. f (suc i)))
+unfolding all_to
+all-first zero f = and-true (f 0)
+  where
+    and-true : (t : Bool) → t ≡ (t && true)
+    and-true true = refl
+    and-true false = refl
+all-first (suc n) f = ap (λ (t : Bool). t && f (suc n)) (all-first n f) ∙ and-assoc (f 0) _ _
+  where
+    and-assoc : (a b c : Bool) → ((a && b) && c) ≡ (a && (b && c))
+    and-assoc true b c = refl
+    and-assoc false b c = refl
 
-  pub not-status : (i : ℕ) → length status ≤ 32 → i < length status → 2 < get_or status i 0 → false ≡ are_slots status
-  unfolding are_slots
-  not-status i few h over =
-      simp (le-leb (length status) 32 few, all_to-false (λ j. leb (get_or status j 0) 2) (length status) i h (lt-leb (get_or status i 0) 2 over))
+all-listed : (l : List ℕ) → list_all (λ entry. leb entry 2) l ≡ all_to (length l) (λ i. leb (get_or l i 0) 2)
+unfolding all_to
+all-listed [] = refl
+all-listed (x ∷ l) = ap (λ (t : Bool). leb x 2 && t) (all-listed l) ∙ sym (all-first (length l) (λ i. leb (get_or (x ∷ l) i 0) 2))
 
-  pub all-statuses : length status ≤ 32 → all_to (length status) (λ j. leb (get_or status j 0) 2) ≡ true → true ≡ are_slots status
-  unfolding are_slots
-  all-statuses few e = simp (le-leb (length status) 32 few, e)
+pub statuses-all : (status : List ℕ) → (leb (length status) 32 && list_all (λ entry. leb entry 2) status) ≡ are_slots status
+unfolding are_slots
+statuses-all status = ap (λ (t : Bool). leb (length status) 32 && t) (all-listed status)
 
 get_d_past : (l : List ℕ) (i : ℕ) → length l ≤ i → get_or l i 0 ≡ 0
 get_d_past [] i h = refl
@@ -45,16 +53,16 @@ get_d_past (x ∷ l) zero h = absurd (omega arith)
 get_d_past (x ∷ l) (suc i) h = get_d_past l i (omega arith)
 
 -- the slots filled from the lists, over slots that are free
-pub loaded : (status criteria : List ℕ) (slot slot₀ : List Slot) (i : ℕ) → length status ≤ 32 → i ≡ length status → length slot₀ ≡ 32 →
-    ((j : ℕ) → j < 32 → get_or slot₀ j (record { state = Free }) ≡ record { state = Free }) →
-    slot ≡ overwrite (tabulate i (λ j. slot_from (get_or status j 0) (get_or criteria j 0))) slot₀ →
+pub loaded : (status criteria : List ℕ) (slot : List Slot) (i : ℕ) → length status ≤ 32 → i ≡ length status →
+    slot ≡ overwrite (tabulate i (λ j. slot_from (get_or status j 0) (get_or criteria j 0))) (replicate 32 (record { state = Free })) →
     ◌≡◌ {A = Slots} (record { slot = slot; count = length status }) (slots_of status criteria)
 unfolding slots_of
-loaded status criteria slot slot₀ i few end long free e =
+loaded status criteria slot i few end e =
     let f : ℕ → Slot = λ j. slot_from (get_or status j 0) (get_or criteria j 0) in
+    let free : Slot = record { state = Free } in
     ap (λ (l : List Slot). record { slot = l; count = length status })
-    (e ∙ overwrite-tabulate f i 32 slot₀ (record { state = Free }) (omega arith) long
-    (λ j p q. free j q ∙ sym (ap (λ (n : ℕ). slot_from n (get_or criteria j 0)) (get_d_past status j (omega arith)))))
+    (e ∙ overwrite-tabulate f i 32 (replicate 32 free) free (omega arith) refl
+    (λ j p q. get_or-replicate 32 j free free q ∙ sym (ap (λ (n : ℕ). slot_from n (get_or criteria j 0)) (get_d_past status j (omega arith)))))
 
 -- a list of which every entry is replaced
 pub stored : (f : ℕ → ℕ) (l l₀ : List ℕ) (i n : ℕ) → n ≡ length l₀ → i ≡ n → l ≡ overwrite (tabulate i f) l₀ → l ≡ tabulate n f
@@ -68,11 +76,12 @@ written-lists n status l k s e f =
     ap (λ (m : List ℕ). record { answer = n; status = m; criteria = k }) e
     ∙ ap (λ (m : List ℕ). record { answer = n; status = statuses (length status) s; criteria = m }) f
 
+pub few-slots : (status : List ℕ) → are_slots status ≡ true → length status ≤ 32
+unfolding are_slots
+few-slots status e = leb-true (length status) 32 (both _ _ e).0
+
 -- the cases of two lists
 module _ (status criteria : List ℕ) where
-  pub lists-other : (length status ≡ length criteria → ⊥) → above16 + 2 ≡ lists_refused status criteria
-  lists-other other = simp (ne_eqb (length status) (length criteria) other)
-
   pub lists-unsound : length status ≡ length criteria → are_slots status ≡ false → above16 + 3 ≡ lists_refused status criteria
   lists-unsound same e = simp (eq-eqb (length status) (length criteria) same, e)
 
@@ -88,13 +97,11 @@ module _ (status criteria : List ℕ) where
   slots-alike e = eqb-true (length status) (length criteria) (not-false _ (neither (not (eqb (length status) (length criteria))) (not (are_slots status)) e).0)
 
   pub slots-few : lists_refused status criteria ≡ 0 → length status ≤ 32
-  unfolding are_slots
-  slots-few e =
-      leb-true (length status) 32
-      (both _ _ (not-false _ (neither (not (eqb (length status) (length criteria))) (not (are_slots status)) e).1)).0
+  slots-few e = few-slots status (not-false _ (neither (not (eqb (length status) (length criteria))) (not (are_slots status)) e).1)
 
-  pub on-refused : (call : BurstCall) → (lists_refused status criteria ≡ 0 → ⊥) → burst_left (lists_refused status criteria) status criteria ≡ on_slots status criteria call
-  on-refused call other = simp (ne_eqb (lists_refused status criteria) 0 other)
+  -- refused as the lists are
+  pub on-refused : (n : ℕ) (call : BurstCall) → lists_refused status criteria ≡ above16 + n → burst_left (above16 + n) status criteria ≡ on_slots status criteria call
+  on-refused n call e = simp (e, ne_eqb (above16 + n) 0 (λ z. absurd (omega arith)))
 
   pub on-slots : (call : BurstCall) → lists_refused status criteria ≡ 0 → call ≡ on_slots status criteria call
   on-slots call e = simp (eq-eqb (lists_refused status criteria) 0 e)

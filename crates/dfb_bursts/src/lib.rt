@@ -1,12 +1,16 @@
 // The C interface of burst slots (02, tickets 9 and 10). Slots are two lists of as many entries.
 #![tactic(auto)]
 
-ghost use Rattle.std.specs.Prelude.{◌≡◌, ◌+◌, ◌*◌, ◌^◌, ◌≤◌, ◌<◌, length};
-ghost use Rattle.bursts.specs.Slots.{done_outcome, offered_outcome, slot_outcome, offer_answer_outcome};
-ghost use Rattle.dfb_bursts.specs.Bursts.{slot_from, status_of, criterion_of, are_slots, lists_refused, slots_of, statuses, criteria_of};
+ghost use Rattle.std.specs.Prelude.{◌≡◌, ◌+◌, ◌*◌, ◌^◌, ◌≤◌, ◌<◌, ◌&&◌, leb, length, MatchResult};
+ghost use Rattle.std.specs.List.{list_all};
+ghost use Rattle.refusal.specs.Number.{number_of};
+ghost use Rattle.dfb_refusals.specs.Numbers.{above16};
+ghost use Rattle.refusal.specs.Outcome.{answer_outcome};
+ghost use Rattle.bursts.specs.Slots.{done_outcome, offered_outcome, offer_answer_outcome};
+ghost use Rattle.dfb_bursts.specs.Bursts.{slot_from, status_of, criterion_of, lists_refused, slots_of, statuses, criteria_of};
 ghost use Rattle.dfb_bursts.specs.Bursts.{burst_left, done_call, offer_call, burst_offer, burst_choose, burst_finish};
 
-use bursts::{Done, MOST_SLOTS, OfferAnswer, Offered, Slot, SlotAnswer, SlotState, Slots};
+use bursts::{Done, MOST_SLOTS, OfferRefusal, Offered, Placed, Slot, SlotState, Slots};
 use refusal::Refusal;
 
 // The statuses of a slot.
@@ -20,18 +24,12 @@ const SENDING: u8 = 2;
 fn slot_from(status: u8, criterion: u32) -> Slot
     ensures { result ≡ slot_from status criterion }
 {
-    if status == FREE {
-        return Slot {
-            state: SlotState::Free,
-        };
-    }
-    if status == HELD {
-        return Slot {
-            state: SlotState::Held(criterion),
-        };
-    }
     Slot {
-        state: SlotState::Sending,
+        state: match status {
+            FREE => SlotState::Free,
+            HELD => SlotState::Held(criterion),
+            _ => SlotState::Sending,
+        },
     }
 }
 
@@ -40,7 +38,7 @@ fn status_of(state: SlotState) -> u8
 {
     match state {
         SlotState::Free => FREE,
-        SlotState::Held(criterion) => HELD,
+        SlotState::Held(_) => HELD,
         SlotState::Sending => SENDING,
     }
 }
@@ -57,53 +55,34 @@ fn criterion_of(state: SlotState) -> u32
 
 // Whether a list has the statuses of at most 32 slots.
 fn are_slots(status: &[u8]) -> bool
-    ensures { result ≡ are_slots status.now }
+    ensures { result ≡ (leb (length status.now) 32 && list_all (λ entry. leb entry 2) status.now) }
 {
-    if MOST_SLOTS < status.len() {
-        return false;
-    }
-    let mut i = 0;
-    while i < status.len() {
-        if SENDING < status[i] {
-            return false;
-        }
-        i += 1;
-    }
-    true
-}
-
-// The refusal of two lists that are not those of slots, as a number; 0 if they are.
-fn lists_refused(status: &[u8], criteria: &[u32]) -> u32
-    ensures { result ≡ lists_refused status.now criteria.now }
-{
-    if status.len() != criteria.len() {
-        return dfb_refusals::above_16(Refusal::WrongLength);
-    }
-    if !are_slots(status) {
-        return dfb_refusals::above_16(Refusal::UnsoundState);
-    }
-    0
+    status.len() <= MOST_SLOTS && status.iter().all(|entry| *entry <= SENDING)
 }
 
 // The slots of two lists.
-fn load_slots(status: &[u8], criteria: &[u32]) -> Slots
-    requires status_len_bound { length status.now ≤ 32 }
-    requires status_len { length status.now ≡ length criteria.now }
-    ensures { result ≡ slots_of status.now criteria.now }
+fn load_slots(status: &[u8], criteria: &[u32]) -> Result<Slots, Refusal>
+    ensures { MatchResult result
+        (λ slots. (lists_refused status.now criteria.now ≡ 0) × (slots ≡ slots_of status.now criteria.now))
+        (λ refusal. lists_refused status.now criteria.now ≡ above16 + number_of refusal) }
 {
+    if status.len() != criteria.len() {
+        return Err(Refusal::WrongLength);
+    }
+    if !are_slots(status) {
+        return Err(Refusal::UnsoundState);
+    }
     let free = Slot {
         state: SlotState::Free,
     };
-    let mut slot = [free; 32];
-    let mut i = 0;
-    while i < status.len() {
-        slot[i] = slot_from(status[i], criteria[i]);
-        i += 1;
+    let mut slot = [free; MOST_SLOTS];
+    for (i, entry) in status.iter().enumerate() {
+        slot[i] = slot_from(*entry, criteria[i]);
     }
-    Slots {
-        slot: slot,
+    Ok(Slots {
+        slot,
         count: status.len(),
-    }
+    })
 }
 
 // The two lists of slots.
@@ -112,13 +91,9 @@ fn store_slots(status: &mut [u8], criteria: &mut [u32], slots: Slots)
     requires status_len { length status.old ≡ length criteria.old }
     ensures { (status.new ≡ statuses (length status.old) slots) × (criteria.new ≡ criteria_of (length status.old) slots) }
 {
-    let mut i = 0;
-    while i < status.len() {
-        let slot = slots.slot[i];
-        let state = slot.state;
-        status[i] = status_of(state);
-        criteria[i] = criterion_of(state);
-        i += 1;
+    for (i, slot) in slots.slot[..status.len()].iter().enumerate() {
+        status[i] = status_of(slot.state);
+        criteria[i] = criterion_of(slot.state);
     }
 }
 
@@ -126,16 +101,15 @@ fn store_slots(status: &mut [u8], criteria: &mut [u32], slots: Slots)
 fn write_done(status: &mut [u8], criteria: &mut [u32], done: Done) -> u32
     requires status_len_bound { length status.old ≤ 32 }
     requires status_len { length status.old ≡ length criteria.old }
-    requires slots_bound { (done_call status.old criteria.old (slot_outcome done.answer) done.slots).answer < 2 ^ 32 }
-    ensures { burst_left result status.new criteria.new ≡ done_call status.old criteria.old (slot_outcome done.answer) done.slots }
+    requires slots_bound { (done_call status.old criteria.old (answer_outcome done.answer) done.slots).answer < 2 ^ 32 }
+    ensures { burst_left result status.new criteria.new ≡ done_call status.old criteria.old (answer_outcome done.answer) done.slots }
 {
-    let answer = done.answer;
-    match answer {
-        SlotAnswer::Slot(i) => {
+    match done.answer {
+        Ok(slot) => {
             store_slots(status, criteria, done.slots);
-            i as u32
+            slot as u32
         }
-        SlotAnswer::Refused(refusal) => dfb_refusals::above_16(refusal),
+        Err(refusal) => dfb_refusals::above_16(refusal),
     }
 }
 
@@ -146,16 +120,15 @@ fn write_offered(status: &mut [u8], criteria: &mut [u32], offered: Offered) -> u
     requires slots_bound { (offer_call status.old criteria.old (offer_answer_outcome offered.answer) offered.slots).answer < 2 ^ 32 }
     ensures { burst_left result status.new criteria.new ≡ offer_call status.old criteria.old (offer_answer_outcome offered.answer) offered.slots }
 {
-    let answer = offered.answer;
-    match answer {
-        OfferAnswer::Slot { slot, looked } => {
+    match offered.answer {
+        Ok(Placed { slot, looked }) => {
             store_slots(status, criteria, offered.slots);
             slot as u32 + 0x100000 * looked as u32
         }
-        OfferAnswer::TurnedAway { looked } => {
+        Err(OfferRefusal::TurnedAway { looked }) => {
             dfb_refusals::above_16(Refusal::TurnedAway) + 0x100000 * looked as u32
         }
-        OfferAnswer::Refused(refusal) => dfb_refusals::above_16(refusal),
+        Err(OfferRefusal::Refused(refusal)) => dfb_refusals::above_16(refusal),
     }
 }
 
@@ -164,12 +137,10 @@ fn write_offered(status: &mut [u8], criteria: &mut [u32], offered: Offered) -> u
 pub extern "C" fn dfb_burst_offer(status: &mut [u8], criteria: &mut [u32], criterion: u32) -> u32
     ensures { burst_left result status.new criteria.new ≡ burst_offer status.old criteria.old criterion }
 {
-    let refused = lists_refused(status, criteria);
-    if refused != 0 {
-        return refused;
+    match load_slots(status, criteria) {
+        Ok(slots) => write_offered(status, criteria, bursts::offer(slots, criterion)),
+        Err(refusal) => dfb_refusals::above_16(refusal),
     }
-    let offered = bursts::offer(load_slots(status, criteria), criterion);
-    write_offered(status, criteria, offered)
 }
 
 // Chooses the block to send; answers its slot. Refused by 2, then 3, then 27, then 26.
@@ -177,12 +148,10 @@ pub extern "C" fn dfb_burst_offer(status: &mut [u8], criteria: &mut [u32], crite
 pub extern "C" fn dfb_burst_choose(status: &mut [u8], criteria: &mut [u32]) -> u32
     ensures { burst_left result status.new criteria.new ≡ burst_choose status.old criteria.old }
 {
-    let refused = lists_refused(status, criteria);
-    if refused != 0 {
-        return refused;
+    match load_slots(status, criteria) {
+        Ok(slots) => write_done(status, criteria, bursts::choose(slots)),
+        Err(refusal) => dfb_refusals::above_16(refusal),
     }
-    let done = bursts::choose(load_slots(status, criteria));
-    write_done(status, criteria, done)
 }
 
 // Frees the slot that was sent; answers it. Refused by 2, then 3, then 28.
@@ -190,10 +159,8 @@ pub extern "C" fn dfb_burst_choose(status: &mut [u8], criteria: &mut [u32]) -> u
 pub extern "C" fn dfb_burst_finish(status: &mut [u8], criteria: &mut [u32]) -> u32
     ensures { burst_left result status.new criteria.new ≡ burst_finish status.old criteria.old }
 {
-    let refused = lists_refused(status, criteria);
-    if refused != 0 {
-        return refused;
+    match load_slots(status, criteria) {
+        Ok(slots) => write_done(status, criteria, bursts::finish(slots)),
+        Err(refusal) => dfb_refusals::above_16(refusal),
     }
-    let done = bursts::finish(load_slots(status, criteria));
-    write_done(status, criteria, done)
 }

@@ -5,10 +5,9 @@
 ghost use Rattle.std.specs.Prelude.{◌≡◌};
 ghost use Rattle.lists.specs.Tables.{tabulate};
 ghost use Rattle.registers.specs.Access.{register};
-ghost use Rattle.dfb_refusals.specs.Numbers.{above63, FilledNumber, filled_number, values_put};
+ghost use Rattle.dfb_refusals.specs.Numbers.{above63, filled_number, values_put};
 ghost use Rattle.dfb_checker.specs.Answer.{check_answer};
 
-use checker::Judgement;
 use refusal::Refusal;
 use registers::Registers;
 
@@ -19,9 +18,7 @@ pub fn put_registers(registers: Registers, list: &mut [u16]) -> u64
     if list.len() < Registers::COUNT {
         return dfb_refusals::above_63(Refusal::WrongLength);
     }
-    for n in 0..Registers::COUNT {
-        list[n] = registers.value[n];
-    }
+    list[..Registers::COUNT].copy_from_slice(&registers.value);
     0
 }
 
@@ -34,9 +31,8 @@ pub fn dfb_check_commands(log: &[u8], registers: &mut [u16]) -> u64
         return dfb_refusals::above_63(Refusal::WrongLength);
     }
     let verdict = checker::check(log);
-    let judgement = verdict.judgement;
-    match judgement {
-        Judgement::Accepted => put_registers(verdict.registers, registers),
-        Judgement::Refused(refusal, offset) => dfb_refusals::above_63_at(refusal, offset),
+    match verdict.judgement {
+        Ok(()) => put_registers(verdict.registers, registers),
+        Err(fault) => dfb_refusals::above_63_at(fault.refusal, fault.offset),
     }
 }

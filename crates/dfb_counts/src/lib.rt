@@ -2,53 +2,51 @@
 // number. A refusal is 2^63 and its number, of dfb_count_sets also 256 for each byte of its offset, and changes nothing.
 #![tactic(auto)]
 
-ghost use Rattle.std.specs.Prelude.{◌≡◌, ◌&&◌, ◌≤◌, eqb, length};
+ghost use Rattle.std.specs.Prelude.{◌≡◌, ◌≤◌, length};
 ghost use Rattle.lists.specs.Tables.{overwrite};
+ghost use Rattle.refusal.specs.Outcome.{answer_outcome};
 ghost use Rattle.counting.specs.Writer.{command, mark, tick, set, report};
-ghost use Rattle.dfb_counts.specs.Calls.{tally_lists, lists_left, call_left, counted_call, tally_put, count_answer, count_number};
+ghost use Rattle.dfb_refusals.specs.Numbers.{above63, outcome_number};
+ghost use Rattle.dfb_counts.specs.Calls.{lists_left, call_left, counted_call, tally_put, count_answer, count_number};
+ghost use Rattle.dfb_counts.specs.Private.{tally_loaded};
 
-use counts::{Counts, Ending, Tally};
+use counting::Counted;
+use counts::{Counts, Tally};
 use refusal::Refusal;
 use registers::Registers;
 
-// Whether both lists have seven numbers.
-fn are_seven(counts: usize, registers: usize) -> bool
-    ensures { result ≡ eqb counts 7 && eqb registers 7 }
+// The counts and registers of two lists, if both have seven numbers.
+fn load(counts: &[u64], registers: &[u16]) -> Option<Tally>
+    ensures { result ≡ tally_loaded counts.now registers.now }
 {
-    (counts == Counts::LENGTH) & (registers == Registers::COUNT)
+    if counts.len() != Counts::LENGTH || registers.len() != Registers::COUNT {
+        return None;
+    }
+    let mut tally = Tally::empty();
+    tally.counts.value.copy_from_slice(counts);
+    tally.registers.value.copy_from_slice(registers);
+    Some(tally)
 }
 
-// The counts and registers of two lists of seven.
-fn load(counts: &[u64], registers: &[u16]) -> Tally
-    requires { (length counts.now ≡ 7) × (length registers.now ≡ 7) }
-    ensures { result ≡ tally_lists counts.now registers.now }
+// Writes counts and registers to the fronts of the lists.
+fn put(tally: Tally, counts: &mut [u64], registers: &mut [u16])
+    requires counts_room { 7 ≤ length counts.old }
+    requires registers_room { 7 ≤ length registers.old }
+    ensures counted { counts.new ≡ overwrite tally.counts.value counts.old }
+    ensures held { registers.new ≡ overwrite tally.registers.value registers.old }
 {
-    let counted = [
-        counts[0], counts[1], counts[2], counts[3], counts[4], counts[5], counts[6],
-    ];
-    let held = [
-        registers[0],
-        registers[1],
-        registers[2],
-        registers[3],
-        registers[4],
-        registers[5],
-        registers[6],
-    ];
-    Tally {
-        counts: Counts { value: counted },
-        registers: Registers { value: held },
-    }
+    counts[..Counts::LENGTH].copy_from_slice(&tally.counts.value);
+    registers[..Registers::COUNT].copy_from_slice(&tally.registers.value);
 }
 
-// Writes the seven counts to the front of the list.
-fn put_counts(counts: Counts, list: &mut [u64])
-    requires { 7 ≤ length list.old }
-    ensures { list.new ≡ overwrite counts.value list.old }
+// Writes what a call leaves to the two lists of seven; answers the number of its answer.
+fn put_call(done: Counted, counts: &mut [u64], registers: &mut [u16]) -> u64
+    requires seven_counts { length counts.old ≡ 7 }
+    requires seven_registers { length registers.old ≡ 7 }
+    ensures { lists_left result counts.new registers.new ≡ lists_left (outcome_number above63 (answer_outcome done.answer)) done.tally.counts.value done.tally.registers.value }
 {
-    for n in 0..Counts::LENGTH {
-        list[n] = counts.value[n];
-    }
+    put(done.tally, counts, registers);
+    dfb_log::written_63(done.answer)
 }
 
 // Appends a command; answers the new number of bytes used. Refused by 2 for the lists' lengths, then 3, 1, 2.
@@ -63,15 +61,11 @@ pub extern "C" fn dfb_counted_command(
 ) -> u64
     ensures { call_left log.new (lists_left result counts.new registers.new) ≡ counted_call log.old used counts.old registers.old (command id information) }
 {
-    if !are_seven(counts.len(), registers.len()) {
+    let Some(tally) = load(counts, registers) else {
         return dfb_refusals::above_63(Refusal::WrongLength);
-    }
-    let done = counting::command(log, used, load(counts, registers), id, information);
-    let tally = done.tally;
-    // never refused: the list has seven numbers
-    dfb_checker::put_registers(tally.registers, registers);
-    let answer = done.answer;
-    dfb_log::written_63(answer)
+    };
+    let done = counting::command(log, used, tally, id, information);
+    put_call(done, counts, registers)
 }
 
 // Appends a second mark; answers as above. Refused by 2 for the lists' lengths, then 3, 2.
@@ -85,12 +79,11 @@ pub extern "C" fn dfb_counted_mark(
 ) -> u64
     ensures { call_left log.new (lists_left result counts.new registers.new) ≡ counted_call log.old used counts.old registers.old (mark seconds) }
 {
-    if !are_seven(counts.len(), registers.len()) {
+    let Some(tally) = load(counts, registers) else {
         return dfb_refusals::above_63(Refusal::WrongLength);
-    }
-    let done = counting::mark(log, used, load(counts, registers), seconds);
-    let answer = done.answer;
-    dfb_log::written_63(answer)
+    };
+    let done = counting::mark(log, used, tally, seconds);
+    put_call(done, counts, registers)
 }
 
 // Appends a tick; answers as above. Refused by 2 for the lists' lengths, then 3, 2.
@@ -103,12 +96,11 @@ pub extern "C" fn dfb_counted_tick(
 ) -> u64
     ensures { call_left log.new (lists_left result counts.new registers.new) ≡ counted_call log.old used counts.old registers.old tick }
 {
-    if !are_seven(counts.len(), registers.len()) {
+    let Some(tally) = load(counts, registers) else {
         return dfb_refusals::above_63(Refusal::WrongLength);
-    }
-    let done = counting::tick(log, used, load(counts, registers));
-    let answer = done.answer;
-    dfb_log::written_63(answer)
+    };
+    let done = counting::tick(log, used, tally);
+    put_call(done, counts, registers)
 }
 
 // Appends a waveform set; answers as above. Refused by 2 for the lists' lengths, then 3, 4, 5, 2.
@@ -123,14 +115,11 @@ pub extern "C" fn dfb_counted_set(
 ) -> u64
     ensures { call_left log.new (lists_left result counts.new registers.new) ≡ counted_call log.old used counts.old registers.old (set apid samples.now) }
 {
-    if !are_seven(counts.len(), registers.len()) {
+    let Some(tally) = load(counts, registers) else {
         return dfb_refusals::above_63(Refusal::WrongLength);
-    }
-    let done = counting::set(log, used, load(counts, registers), apid, samples);
-    let tally = done.tally;
-    put_counts(tally.counts, counts);
-    let answer = done.answer;
-    dfb_log::written_63(answer)
+    };
+    let done = counting::set(log, used, tally, apid, samples);
+    put_call(done, counts, registers)
 }
 
 // Appends a SPEC set; answers as above. Refused by 2 for the lists' lengths, then 3, 6, 5, 7, 2.
@@ -144,28 +133,22 @@ pub extern "C" fn dfb_counted_report(
 ) -> u64
     ensures { call_left log.new (lists_left result counts.new registers.new) ≡ counted_call log.old used counts.old registers.old (report words.now) }
 {
-    if !are_seven(counts.len(), registers.len()) {
+    let Some(tally) = load(counts, registers) else {
         return dfb_refusals::above_63(Refusal::WrongLength);
-    }
-    let done = counting::report(log, used, load(counts, registers), words);
-    let tally = done.tally;
-    put_counts(tally.counts, counts);
-    let answer = done.answer;
-    dfb_log::written_63(answer)
+    };
+    let done = counting::report(log, used, tally, words);
+    put_call(done, counts, registers)
 }
 
 // Writes counts and registers to the fronts of the lists; answers 0. Refused by 2.
 fn put_counted(tally: Tally, counts: &mut [u64], registers: &mut [u16]) -> u64
     ensures { lists_left result counts.new registers.new ≡ count_number (tally_put tally counts.old registers.old) }
 {
-    if counts.len() < Counts::LENGTH {
+    if counts.len() < Counts::LENGTH || registers.len() < Registers::COUNT {
         return dfb_refusals::above_63(Refusal::WrongLength);
     }
-    let answer = dfb_checker::put_registers(tally.registers, registers);
-    if answer == 0 {
-        put_counts(tally.counts, counts);
-    }
-    answer
+    put(tally, counts, registers);
+    0
 }
 
 // Counts the sets of a log; answers 0 with the counts and registers at the fronts of the lists. Refused by 2 for a log of 2^55 bytes or more,
@@ -178,9 +161,8 @@ pub extern "C" fn dfb_count_sets(log: &[u8], counts: &mut [u64], registers: &mut
         return dfb_refusals::above_63(Refusal::WrongLength);
     }
     let count = counts::count_sets(log);
-    let ending = count.ending;
-    match ending {
-        Ending::End(_) => put_counted(count.tally, counts, registers),
-        Ending::Refused(refusal, offset) => dfb_refusals::above_63_at(refusal, offset),
+    match count.ending {
+        Ok(_) => put_counted(count.tally, counts, registers),
+        Err(fault) => dfb_refusals::above_63_at(fault.refusal, fault.offset),
     }
 }

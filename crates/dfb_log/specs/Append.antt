@@ -1,6 +1,6 @@
 -- Append by a kind, which the log has in another form: one record from numbers.
 use Rattle.std.specs.Prelude.{ℕ, Bool, cond, not, ◌&&◌, List, leb, ltb, eqb}
-use Rattle.refusal.specs.Outcome.{Filled, unfilled}
+use Rattle.refusal.specs.Outcome.{Outcome, given, refused, Filled, unfilled}
 use Rattle.registers.specs.Access.{is_id}
 use Rattle.words.specs.Words.{is_apid}
 use Rattle.board_log.specs.declared.Record.{Record}
@@ -23,6 +23,10 @@ is_wide kind b = leb kind 0x02 && ltb 0xFFFF b
 -- its refusal: 1 or 4 by the ID or the APID, then 2
 abbrev pub wide_refusal : ℕ → ℕ → ℕ
 wide_refusal kind a = cond (eqb kind 0x01) (cond (is_id a) 2 1) (cond (is_apid a) 2 4)
+
+-- the record of a kind, or that refusal
+abbrev pub narrow_record : ℕ → ℕ → ℕ → Outcome Record
+narrow_record kind a b = cond (is_wide kind b) (refused (wide_refusal kind a)) (given (record_of kind a b))
 
 -- append: refused by 9 for another kind, then as the log's append, and by 2 also for a b over 16 bits
 unfoldable pub append_kind : List ℕ → ℕ → ℕ → ℕ → ℕ → Filled ℕ

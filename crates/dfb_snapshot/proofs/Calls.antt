@@ -10,17 +10,33 @@ use lib.IntN.{ℤ}
 use lib.ListN.{length}
 use Rattle.lists.specs.Tables.{overwrite}
 use Rattle.lists.proofs.Choices.{by_cases}
-use Rattle.refusal.specs.Outcome.{Outcome, given, refused}
+use Rattle.std.specs.Prelude.{Result, Ok, Err}
+use Rattle.std.specs.Result.{result_err}
+use Rattle.std.specs.Option.{unwrap_or}
+use Rattle.refusal.specs.declared.Refusal.{Refusal}
+use Rattle.refusal.specs.declared.Refusal.TheVariants.{WrongLength}
+use Rattle.refusal.specs.Number.{number_of}
+use Rattle.refusal.specs.Outcome.{Outcome, given, refused, answer_outcome}
 use Rattle.snapshot.specs.declared.Header.{Header}
+use Rattle.snapshot.specs.declared.Found.{Found}
 use Rattle.snapshot.specs.Packet.{sample_count}
-use Rattle.snapshot.specs.Calls.{header_found, Found, ReadLeft, samples_read, packet_read, packet_written}
+use Rattle.snapshot.specs.Calls.{header_found, ReadLeft, samples_read, packet_read, packet_written}
 use Rattle.snapshot.proofs.Packets.{components-le}
 use Rattle.snapshot.proofs.Theorems.{read-accepted, write-accepted}
 use Rattle.dfb_snapshot.specs.Header.{header_numbers}
 use Rattle.dfb_snapshot.specs.Calls.{ReadCall, read_refused, read_to, read_call}
-use Rattle.dfb_snapshot.specs.Private.{refusal_or2}
 
 -- ---- reading
+
+-- the refusal of a header, or 2 where there is none
+abbrev pub refusal_or2 : Outcome Header → ℕ
+refusal_or2 (given h) = 2
+refusal_or2 (refused n) = n
+
+-- as the code has it
+pub first-refusal : (r : Result Header Refusal) → number_of (unwrap_or (result_err r) WrongLength) ≡ refusal_or2 (answer_outcome r)
+first-refusal (Ok h) = refl
+first-refusal (Err e) = refl
 
 -- a list for the header that is too short
 pub read_short : (packet header : List ℕ) (samples : List ℤ) → length header < 10 →

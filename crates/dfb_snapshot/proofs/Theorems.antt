@@ -17,8 +17,9 @@ use Rattle.refusal.proofs.Outcomes.{refused-given}
 use Rattle.words.specs.Words.{AreBytes}
 use Rattle.fields.specs.Samples.{samples_at}
 use Rattle.snapshot.specs.declared.Header.{Header}
+use Rattle.snapshot.specs.declared.Found.{Found}
 use Rattle.snapshot.specs.Packet.{header_in, components, sample_count}
-use Rattle.snapshot.specs.Calls.{header_found, Found, ReadLeft, samples_read, packet_read, packet_written}
+use Rattle.snapshot.specs.Calls.{header_found, ReadLeft, samples_read, packet_read, packet_written}
 use Rattle.snapshot.specs.Claims.{HeaderFits}
 use Rattle.snapshot.proofs.Packets.{components-le, header-fits, accepted}
 use Rattle.snapshot.proofs.Theorems as snapshot

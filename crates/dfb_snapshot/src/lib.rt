@@ -1,16 +1,14 @@
 // The C interface of snapshots (02, ticket 1; include/dfb.h): a header is ten numbers.
 #![tactic(auto)]
 
-ghost use Rattle.std.specs.Prelude.{◌≡◌, true, ◌+◌, ◌≤◌, length};
+ghost use Rattle.std.specs.Prelude.{◌≡◌, true, ◌≤◌, length};
 ghost use Rattle.lists.specs.Tables.{overwrite};
-ghost use Rattle.snapshot.specs.Calls.{header_found};
 ghost use Rattle.dfb_refusals.specs.Numbers.{above16, FilledNumber, filled_number};
 ghost use Rattle.dfb_snapshot.specs.Header.{header_numbers, header_of, header_taken};
 ghost use Rattle.dfb_snapshot.specs.Calls.{ReadCall, read_call, write_call};
-ghost use Rattle.dfb_snapshot.specs.Private.{refusal_or2};
 
-use refusal::{Refusal, Written};
-use snapshot::{Header, HeaderRead, PacketRead};
+use refusal::Refusal;
+use snapshot::Header;
 
 // The length of a header.
 const HEADER: usize = 10;
@@ -24,15 +22,7 @@ const LIMITS: [u32; 10] = [
 fn is_header(header: &[u32]) -> bool
     ensures { result ≡ header_taken header.now }
 {
-    if header.len() != HEADER {
-        return false;
-    }
-    for i in 0..HEADER {
-        if LIMITS[i] < header[i] {
-            return false;
-        }
-    }
-    true
+    header.len() == HEADER && header.iter().zip(&LIMITS).all(|(n, most)| n <= most)
 }
 
 // The header of ten numbers.
@@ -59,26 +49,18 @@ fn store(header: &mut [u32], from: Header)
     requires { 10 ≤ length header.old }
     ensures { header.new ≡ overwrite (header_numbers from) header.old }
 {
-    header[0] = from.coarse as u32;
-    header[1] = from.fine as u32;
-    header[2] = from.sequence as u32;
-    header[3] = from.switches8;
-    header[4] = from.switches12 as u32;
-    header[5] = from.mask as u32;
-    header[6] = from.total as u32;
-    header[7] = from.artefacts as u32;
-    header[8] = from.snapshot as u32;
-    header[9] = from.number as u32;
-}
-
-// The answer where the list for the header is too short: the packet's own refusal, or 2.
-fn short_header(packet: &[u8]) -> u32
-    ensures { result ≡ above16 + refusal_or2 (header_found packet.now) }
-{
-    match snapshot::read_header(packet) {
-        HeaderRead::Header(_) => dfb_refusals::above_16(Refusal::WrongLength),
-        HeaderRead::Refused(refusal) => dfb_refusals::above_16(refusal),
-    }
+    header[..HEADER].copy_from_slice(&[
+        from.coarse as u32,
+        from.fine as u32,
+        from.sequence as u32,
+        from.switches8,
+        from.switches12 as u32,
+        from.mask as u32,
+        from.total as u32,
+        from.artefacts as u32,
+        from.snapshot as u32,
+        from.number as u32,
+    ]);
 }
 
 // Reads one packet; answers the number of samples written. Refused by 16, then 14, then 15, then 16, then 2.
@@ -87,14 +69,18 @@ pub extern "C" fn dfb_snapshot_read(packet: &[u8], header: &mut [u32], samples: 
     ensures { record { answer = result; header = header.new; samples = samples.new } ≡ read_call packet.now header.old samples.old }
 {
     if header.len() < HEADER {
-        return short_header(packet);
+        // the packet's own refusal comes first
+        let refusal = snapshot::read_header(packet)
+            .err()
+            .unwrap_or(Refusal::WrongLength);
+        return dfb_refusals::above_16(refusal);
     }
     match snapshot::read_packet(packet, samples) {
-        PacketRead::Packet(found, n) => {
-            store(header, found);
-            n as u32
+        Ok(found) => {
+            store(header, found.header);
+            found.count as u32
         }
-        PacketRead::Refused(refusal) => dfb_refusals::above_16(refusal),
+        Err(refused) => dfb_refusals::above_16(refused),
     }
 }
 
@@ -107,7 +93,7 @@ pub extern "C" fn dfb_snapshot_write(header: &[u32], samples: &[i16], packet: &m
         return dfb_refusals::above_16(Refusal::WrongLength);
     }
     match snapshot::write_packet(load(header), samples, packet) {
-        Written::Count(n) => n as u32,
-        Written::Refused(refusal) => dfb_refusals::above_16(refusal),
+        Ok(n) => n as u32,
+        Err(refusal) => dfb_refusals::above_16(refusal),
     }
 }

@@ -15,14 +15,15 @@ use Rattle.refusal.proofs.Outcomes.{refused-given, given-refused}
 use Rattle.words.specs.Words.{set_size}
 use Rattle.space_packets.specs.declared.PacketHeader.{PacketHeader}
 use Rattle.space_packets.specs.Packet.{primary_in, most_samples, count_of}
-use Rattle.space_packets.specs.Calls.{header_taken, header_found, Found, ImportLeft, sample_count, samples_imported, packet_imported, Sent, ExportLeft, sets_exported, packets_exported}
+use Rattle.space_packets.specs.declared.Import.{Import}
+use Rattle.space_packets.specs.declared.Export.{Export}
+use Rattle.space_packets.specs.Calls.{header_taken, header_found, ImportLeft, sample_count, samples_imported, packet_imported, ExportLeft, sets_exported, packets_exported}
 use Rattle.space_packets.proofs.Theorems as packets
 use Rattle.space_packets.proofs.Theorems.{export-exactly, import-exported}
 use Rattle.dfb_refusals.specs.Numbers.{above16, above63}
 use Rattle.dfb_space_packets.specs.Calls.{export_left, export_call, ImportCall, import_refused, import_call}
-use Rattle.dfb_space_packets.specs.Private.{refusal_or2}
 use Rattle.dfb_space_packets.specs.Claims.{ExportPacketsApart, OtherCountRefused, RefusedExportUnchanged, AcceptedExportGiven, ImportPacketApart, RefusedImportUnchanged, ShortHeaderRefused, AcceptedImportGiven, WorkedImports, WorkedHeader, WorkedExports, ImportedExported}
-use Rattle.dfb_space_packets.proofs.Imports.{import-short, import_left, import-long, import-few}
+use Rattle.dfb_space_packets.proofs.Imports.{refusal_or2, import-short, import_left, import-long, import-few}
 
 -- ---- by computation
 
@@ -53,7 +54,7 @@ unfolding export_call
 accepted-export-given apid first samples out s e = rw e
 
 -- no more bytes are written than the output has
-sent-fits : (apid first : ℕ) (samples : List ℤ) (out : List ℕ) (s : Sent) → (packets_exported apid first samples out).answer ≡ given s → s.bytes ≤ length out
+sent-fits : (apid first : ℕ) (samples : List ℤ) (out : List ℕ) (s : Export) → (packets_exported apid first samples out).answer ≡ given s → s.bytes ≤ length out
 sent-fits apid first samples out s e = let a = (export-exactly apid first samples out s).0 e in omega (arith, a.bytes, a.room)
 
 pub export-packets-apart : ExportPacketsApart
@@ -61,7 +62,7 @@ unfolding export_call
 export-packets-apart apid count samples out short =
     by_cases (eqb (length count) 1) (λ t. rw t (by (packets_exported apid (get_or count 0 0) samples out).answer refl)) (λ t. rw t)
   where
-    by : (o : Outcome Sent) → (packets_exported apid (get_or count 0 0) samples out).answer ≡ o →
+    by : (o : Outcome Export) → (packets_exported apid (get_or count 0 0) samples out).answer ≡ o →
         ltb (export_left count o (packets_exported apid (get_or count 0 0) samples out).out).answer above63 ≡ is_given o
     by (refused n) e = le-ltb (above63 + n) above63 (omega arith)
     by (given s) e = lt-ltb s.bytes above63 (omega (arith, sent-fits apid (get_or count 0 0) samples out s e))
@@ -80,7 +81,7 @@ header-refusal packet samples n = by (header_found packet)
         (λ t e. absurd (given-refused _ n e))
 
 -- and where there is none, the header is found
-header-given : (packet : List ℕ) (samples : List ℤ) (f : Found) → (packet_imported packet samples).answer ≡ given f → refusal_or2 (header_found packet) ≡ 2
+header-given : (packet : List ℕ) (samples : List ℤ) (f : Import) → (packet_imported packet samples).answer ≡ given f → refusal_or2 (header_found packet) ≡ 2
 unfolding packet_imported
 header-given packet samples f = by (header_found packet)
   where
@@ -99,7 +100,7 @@ refused-import-unchanged packet header samples n e =
 pub short-header-refused : ShortHeaderRefused
 short-header-refused packet header samples ok short = by (packet_imported packet samples).answer refl ok
   where
-    by : (o : Outcome Found) → (packet_imported packet samples).answer ≡ o → is_given o ≡ true →
+    by : (o : Outcome Import) → (packet_imported packet samples).answer ≡ o → is_given o ≡ true →
         import_call packet header samples ≡ record { answer = above16 + 2; header = header; samples = samples }
     by (refused n) e t = absurd (false≢true t)
     by (given f) e t = sym (import-short packet header samples short) ∙ ap (λ (m : ℕ). import_refused m header samples) (header-given packet samples f e)
@@ -119,7 +120,7 @@ import-packet-apart packet header samples =
     ∙ by (packet_imported packet samples).answer refl
     ∙ ap (λ (b : Bool). b && is_given (packet_imported packet samples).answer) (sym (le-leb 2 (length header) long)))
   where
-    by : (o : Outcome Found) → (packet_imported packet samples).answer ≡ o → ltb (import_left header (packet_imported packet samples).samples o).answer above16 ≡ is_given o
+    by : (o : Outcome Import) → (packet_imported packet samples).answer ≡ o → ltb (import_left header (packet_imported packet samples).samples o).answer above16 ≡ is_given o
     by (refused n) e = le-ltb (above16 + n) above16 (omega arith)
     by (given f) e = lt-ltb f.samples above16 (omega (arith, import-few packet samples f e))
 
@@ -134,13 +135,13 @@ imported-exported packet header samples back are ok room =
     accepted : (leb 2 (length header) ≡ true) × (is_given (packet_imported packet samples).answer ≡ true)
     accepted = both (leb 2 (length header)) (is_given (packet_imported packet samples).answer) (sym (import-packet-apart packet header samples) ∙ lt-ltb (import_call packet header samples).answer above16 ok)
 
-    by : (o : Outcome Found) → (packet_imported packet samples).answer ≡ o → is_given o ≡ true → 2 ≤ length header →
+    by : (o : Outcome Import) → (packet_imported packet samples).answer ≡ o → is_given o ≡ true → 2 ≤ length header →
         export_call (get_or (import_call packet header samples).header 0 0) (get_or (import_call packet header samples).header 1 0 ∷ [])
         (take (import_call packet header samples).answer (import_call packet header samples).samples) back
         ≡ record { answer = length packet; count = count_of (get_or (import_call packet header samples).header 1 0) 1 ∷ []; out = overwrite packet back }
     by (refused n) e t long = absurd (false≢true t)
     by (given f) e t long =
-        let s : Sent = record { bytes = length packet; next = count_of f.header.count 1 } in
+        let s : Export = record { bytes = length packet; next = count_of f.header.count 1 } in
         let exported = import-exported packet samples f back are e room in
         let given-call = accepted-export-given f.header.apid f.header.count (take f.samples (packet_imported packet samples).samples) back s (ap (λ (l : ExportLeft). l.answer) exported) in
         rw (accepted-import-given packet header samples f e long) (given-call ∙ ap (λ (l : ExportLeft). record { answer = length packet; count = count_of f.header.count 1 ∷ []; out = l.out }) exported)

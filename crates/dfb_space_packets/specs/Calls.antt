@@ -4,7 +4,8 @@ use Rattle.lists.specs.Tables.{overwrite}
 use Rattle.refusal.specs.Outcome.{Outcome, given, refused}
 use Rattle.fields.specs.Samples.{samples_at}
 use Rattle.space_packets.specs.declared.PacketHeader.{PacketHeader}
-use Rattle.space_packets.specs.Calls.{header_found, sample_count, Sent, packets_exported}
+use Rattle.space_packets.specs.declared.Export.{Export}
+use Rattle.space_packets.specs.Calls.{header_found, sample_count, packets_exported}
 use Rattle.dfb_refusals.specs.Numbers.{above16, above63}
 
 -- ---- dfb_export_packets
@@ -16,7 +17,7 @@ pub record ExportCall : Type 0 where
   pub out : List ℕ
 
 -- an accepted export answers its bytes and leaves the next count; a refused one leaves both lists as they were
-abbrev pub export_left : List ℕ → Outcome Sent → List ℕ → ExportCall
+abbrev pub export_left : List ℕ → Outcome Export → List ℕ → ExportCall
 export_left count (given s) out = record { answer = s.bytes; count = s.next ∷ []; out = out }
 export_left count (refused n) out = record { answer = above63 + n; count = count; out = out }
 

@@ -4,7 +4,9 @@ use Rattle.lists.specs.Tables.{overwrite}
 use Rattle.refusal.specs.Outcome.{given, refused, is_given}
 use Rattle.words.specs.Words.{AreBytes}
 use Rattle.space_packets.specs.Packet.{count_of}
-use Rattle.space_packets.specs.Calls.{Found, packet_imported, Sent, packets_exported}
+use Rattle.space_packets.specs.declared.Import.{Import}
+use Rattle.space_packets.specs.declared.Export.{Export}
+use Rattle.space_packets.specs.Calls.{packet_imported, packets_exported}
 use Rattle.space_packets.specs.Claims.{packet_of}
 use Rattle.dfb_refusals.specs.Numbers.{above16, above63}
 use Rattle.dfb_space_packets.specs.Calls.{export_call, import_call}
@@ -33,7 +35,7 @@ RefusedExportUnchanged =
 -- an accepted one answers the bytes, and leaves the next count and the packets
 abbrev pub AcceptedExportGiven : Type 0
 AcceptedExportGiven =
-    (apid first : ℕ) (samples : List ℤ) (out : List ℕ) (s : Sent) → (packets_exported apid first samples out).answer ≡ given s →
+    (apid first : ℕ) (samples : List ℤ) (out : List ℕ) (s : Export) → (packets_exported apid first samples out).answer ≡ given s →
     export_call apid (first ∷ []) samples out ≡ record { answer = s.bytes; count = s.next ∷ []; out = (packets_exported apid first samples out).out }
 
 -- ---- dfb_import_packet
@@ -59,7 +61,7 @@ ShortHeaderRefused =
 -- an accepted one answers the number of samples, and leaves APID and count at the front of the header
 abbrev pub AcceptedImportGiven : Type 0
 AcceptedImportGiven =
-    (packet header : List ℕ) (samples : List ℤ) (f : Found) → (packet_imported packet samples).answer ≡ given f → 2 ≤ length header →
+    (packet header : List ℕ) (samples : List ℤ) (f : Import) → (packet_imported packet samples).answer ≡ given f → 2 ≤ length header →
     import_call packet header samples
     ≡ record {
       answer = f.samples;

@@ -1,5 +1,3 @@
 -- The C interface of space packets: what each exported function does.
 pub mod Calls
 pub mod Claims
--- For the contract of a private function only.
-pub mod Private

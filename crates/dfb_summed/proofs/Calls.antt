@@ -1,4 +1,5 @@
 -- The state as numbers, and the two cases of a call. Assumes nothing.
+use Rattle.refusal.specs.Outcome.{answer_outcome}
 use Prim.Native.Nat.{ℕ, ◌+◌}
 use mathlib.Core.Path.{◌≡◌, refl, ap, ap₂, ◌∙◌}
 use mathlib.Core.List.{List, [], ◌∷◌}
@@ -6,7 +7,6 @@ use native.Mathlib.Omega.{arith}
 use borrow.Author.Tests.{eq-eqb, ne_eqb}
 use lib.IntN.{ℤ}
 use lib.ListN.{length}
-use Rattle.refusal.specs.Outcome.{written_outcome}
 use Rattle.summed.specs.declared.Summed.{Summed}
 use Rattle.summed.specs.Call.{SumLeft, sum_left, component_summed}
 use Rattle.dfb_refusals.specs.Numbers.{above16, outcome_number}
@@ -30,6 +30,6 @@ module _ (state totals : List ℕ) (n first second : ℕ) (pairs : List ℤ) (ou
   call-three e = rw (eq-eqb (length state) 3 e)
 
 -- what the library left, in numbers
-pub call-done : (done : Summed) (totals out : List ℕ) (o : SumLeft) (answer : ℕ) (numbers : List ℕ) → answer ≡ outcome_number above16 (written_outcome done.answer) →
+pub call-done : (done : Summed) (totals out : List ℕ) (o : SumLeft) (answer : ℕ) (numbers : List ℕ) → answer ≡ outcome_number above16 (answer_outcome done.answer) →
     numbers ≡ state_numbers done.state → sum_left done totals out ≡ o → sum_call_left answer numbers totals out ≡ numbers_left o
 call-done done totals out o answer numbers e g h = ap₂ (λ (n : ℕ) (l : List ℕ). sum_call_left n l totals out) e g ∙ ap numbers_left h

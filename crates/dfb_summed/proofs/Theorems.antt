@@ -1,5 +1,5 @@
 -- What a caller learns from an answer, and what a call leaves. Assumes nothing.
-use Prim.Native.Nat.{ℕ, ◌+◌}
+use Prim.Native.Nat.{ℕ, ◌+◌, ◌<◌}
 use mathlib.Core.Path.{◌≡◌, refl, sym, ap, subst, ◌∙◌}
 use mathlib.Core.Bool.{Bool, true, ◌&&◌, false≢true}
 use mathlib.Core.List.{List}
@@ -10,7 +10,7 @@ use lib.Dec.{ltb, eqb}
 use lib.IntN.{ℤ}
 use lib.ListN.{length}
 use Rattle.lists.proofs.Choices.{by_cases}
-use Rattle.refusal.specs.Outcome.{Outcome, is_given}
+use Rattle.refusal.specs.Outcome.{Outcome, given, refused, is_given}
 use Rattle.summed.specs.declared.SumState.{SumState}
 use Rattle.summed.specs.Call.{SumLeft, component_summed}
 use Rattle.summed.proofs.Theorems.{by_call, refused-unchanged}
@@ -18,7 +18,6 @@ use Rattle.dfb_refusals.specs.Numbers.{above16, outcome_number}
 use Rattle.dfb_refusals.proofs.Apart.{Below, given_below, refused-below, told-apart}
 use Rattle.dfb_summed.specs.Calls.{state_of, state_numbers, SumCall, sum_call_left, numbers_left, sum_call}
 use Rattle.dfb_summed.specs.Claims.{SumCallApart, AnswersGiven, OtherLengthRefused, RefusedCallUnchanged, AcceptedCallGiven, WorkedNumbers}
-use Rattle.dfb_summed.specs.Private.{Fits}
 use Rattle.dfb_summed.proofs.Calls.{state-numbers, call-other, call-three}
 
 pub worked-numbers : WorkedNumbers
@@ -83,6 +82,11 @@ accepted-call-given state totals n first second pairs out v e r =
     call-three state totals n first second pairs out e
     ∙ ap (λ (o : Outcome ℕ). sum_call_left (outcome_number above16 o) (state_numbers (component_summed (state_of state) totals n first second pairs out).state)
     (component_summed (state_of state) totals n first second pairs out).totals (component_summed (state_of state) totals n first second pairs out).out) r
+
+-- a value lies below the base of refusals
+abbrev pub Fits : Outcome ℕ → Type 0
+Fits (given v) = v < above16
+Fits (refused n) = Unit {0}
 
 -- what the library answers fits
 pub left-fits : (s : SumState) (totals : List ℕ) (n first second : ℕ) (pairs : List ℤ) (out : List ℕ) → Fits (component_summed s totals n first second pairs out).answer

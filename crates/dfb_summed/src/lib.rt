@@ -2,13 +2,10 @@
 // number. A refusal is 0x10000 and its number, and changes nothing.
 #![tactic(auto)]
 
-ghost use Rattle.std.specs.Prelude.{◌≡◌, ◌<◌, length};
-ghost use Rattle.refusal.specs.Outcome.{written_outcome};
-ghost use Rattle.dfb_refusals.specs.Numbers.{above16, outcome_number};
+ghost use Rattle.std.specs.Prelude.{◌≡◌, length};
 ghost use Rattle.dfb_summed.specs.Calls.{state_of, state_numbers, sum_call_left, sum_call};
-ghost use Rattle.dfb_summed.specs.Private.{Fits};
 
-use refusal::{Refusal, Written};
+use refusal::Refusal;
 use summed::SumState;
 
 // The length of a state: the next component and the two masks.
@@ -36,17 +33,6 @@ fn store(state: &mut [u8], from: SumState)
     state[2] = from.second;
 }
 
-// The number of bytes written, or the refusal.
-fn answer_16(answer: Written) -> u32
-    requires { Fits (written_outcome answer) }
-    ensures { result ≡ outcome_number above16 (written_outcome answer) }
-{
-    match answer {
-        Written::Count(n) => n as u32,
-        Written::Refused(refusal) => dfb_refusals::above_16(refusal),
-    }
-}
-
 // Adds one component; answers the number of bytes written, 0 before the eighth. Refused by 2, then 3, then 17.
 #[unsafe(no_mangle)]
 pub extern "C" fn dfb_sum_component(
@@ -72,8 +58,9 @@ pub extern "C" fn dfb_sum_component(
         pairs,
         out,
     );
-    let next = done.state;
-    store(state, next);
-    let answer = done.answer;
-    answer_16(answer)
+    store(state, done.state);
+    match done.answer {
+        Ok(n) => n as u32,
+        Err(refusal) => dfb_refusals::above_16(refusal),
+    }
 }

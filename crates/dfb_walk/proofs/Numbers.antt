@@ -1,16 +1,21 @@
 -- A walk as nine numbers, stored one after the other. Assumes nothing.
-use Prim.Native.Nat.{ℕ, suc, ◌+◌, ◌≤◌}
+use Prim.Native.Nat.{ℕ, zero, suc, ◌-◌, ◌≤◌, ◌<◌}
 use mathlib.Core.Path.{◌≡◌, refl, sym, ap, ◌∙◌}
-use mathlib.Core.List.{List, [], ◌∷◌}
+use mathlib.Core.List.{List, [], ◌∷◌, ◌++◌, append-nil}
 use native.Mathlib.Omega.{arith}
 use lib.ListN.{length, get_or, set, drop, length-drop}
-use Rattle.lists.specs.Tables.{tabulate, overwrite}
-use Rattle.lists.proofs.Tables.{length-tabulate, tabulate-of}
-use Rattle.lists.proofs.Overwriting.{table_none, table_more, overwrite-all}
+use borrow.Rule.Slice.PartMut.{put_mid}
+use Rattle.lists.proofs.Tables.{tabulate-of}
 use Rattle.registers.specs.declared.Registers.{Registers}
 use Rattle.registers.specs.Access.{register}
 use Rattle.walk.specs.declared.Walk.{Walk}
 use Rattle.dfb_walk.specs.Next.{walk_of, walk_numbers}
+
+drop-over : (n : ℕ) (l : List ℕ) → length l ≤ n → drop n l ≡ []
+drop-over zero [] h = refl
+drop-over (suc n) [] h = refl
+drop-over zero (x ∷ l) h = absurd (omega arith)
+drop-over (suc n) (x ∷ l) h = drop-over n l (omega arith)
 
 -- the nine numbers of the walk that nine numbers are
 pub numbers-return : (l : List ℕ) → 2 ≤ length l → walk_numbers (walk_of l) ≡ l
@@ -24,32 +29,17 @@ two-stored [] x y h = absurd (omega arith)
 two-stored (a ∷ []) x y h = absurd (omega arith)
 two-stored (a ∷ b ∷ l) x y h = refl
 
-set-third : (x y v n : ℕ) (l : List ℕ) → set (x ∷ y ∷ l) (2 + n) v ≡ x ∷ y ∷ set l n v
-set-third x y v n l =
-    let e : 2 + n ≡ suc (suc n) = omega arith in
-    ap (λ (k : ℕ). set (x ∷ y ∷ l) k v) e
+-- the registers stored behind the two numbers
+pub walk_put : (w : Walk) (l front : List ℕ) → length l ≡ 9 → front ≡ w.registers.value
+    → put_mid 2 (length (set (set l 0 w.at) 1 w.records) - 2) (set (set l 0 w.at) 1 w.records) front ≡ walk_numbers w
+walk_put w l front nine e =
+    let two = two-stored l w.at w.records (omega (arith, nine)) in
+    let seven : length (w.at ∷ w.records ∷ drop 2 l) - 2 ≡ 7 = omega (arith, length-drop 2 l, nine) in
+    ap (λ (m : List ℕ). put_mid 2 (length m - 2) m front) two
+    ∙ ap (λ (k : ℕ). put_mid 2 k (w.at ∷ w.records ∷ drop 2 l) front) seven
+    ∙ ap (λ (r : List ℕ). w.at ∷ w.records ∷ (front ++ r)) (drop-over 7 (drop 2 l) (omega (arith, length-drop 2 l, nine)))
+    ∙ ap (λ (r : List ℕ). w.at ∷ w.records ∷ r) (append-nil front ∙ e)
 
--- the first n registers stand behind the two numbers before them
-abbrev pub registers_put : Registers → List ℕ → ℕ → List ℕ
-registers_put r l n = get_or l 0 0 ∷ get_or l 1 0 ∷ overwrite (tabulate n (register r)) (drop 2 l)
-
-pub registers-none : (r : Registers) (l : List ℕ) → 2 ≤ length l → l ≡ registers_put r l 0
-registers-none r l h =
-    sym (numbers-return l h) ∙ ap (λ (m : List ℕ). get_or l 0 0 ∷ get_or l 1 0 ∷ m) (table_none (register r) (drop 2 l))
-
-pub registers-more : (r : Registers) (l m : List ℕ) (n : ℕ) → m ≡ registers_put r l n → 2 + n ≤ 8 → length l ≡ 9
-    → set m (2 + n) (register r n) ≡ registers_put r l (n + 1)
-registers-more r l m n e h nine =
-    ap (λ (x : List ℕ). set x (2 + n) (register r n)) e
-    ∙ set-third (get_or l 0 0) (get_or l 1 0) (register r n) n (overwrite (tabulate n (register r)) (drop 2 l))
-    ∙ ap (λ (x : List ℕ). get_or l 0 0 ∷ get_or l 1 0 ∷ x)
-    (table_more (register r) (drop 2 l) n (register r n) 0 _ refl (omega (arith, length-drop 2 l)) refl)
-
-pub walk_put : (w : Walk) (l m : List ℕ) (n : ℕ) → n ≡ 7 → length l ≡ 9 → length w.registers.value ≡ 7
-    → m ≡ registers_put w.registers (set (set l 0 w.at) 1 w.records) n → m ≡ walk_numbers w
-walk_put w l m n e nine long p =
-    p ∙ ap (λ (x : List ℕ). registers_put w.registers x n) (two-stored l w.at w.records (omega arith))
-    ∙ ap (λ (x : List ℕ). w.at ∷ w.records ∷ x)
-    (ap (λ (k : ℕ). overwrite (tabulate k (register w.registers)) (drop 2 l)) e
-    ∙ overwrite-all (tabulate 7 (register w.registers)) (drop 2 l) (omega (arith, length-tabulate 7 (register w.registers), length-drop 2 l))
-    ∙ sym (tabulate-of 7 (register w.registers) 0 w.registers.value long (λ i h. refl)))
+-- two lists of the same entries
+pub same_entries : (r : Registers) (front : List ℕ) → length front ≡ 7 → length r.value ≡ 7 → ((i : ℕ) → i < 7 → get_or front i 0 ≡ register r i) → front ≡ r.value
+same_entries r front k l h = tabulate-of 7 (register r) 0 front k h ∙ sym (tabulate-of 7 (register r) 0 r.value l (λ i j. refl))

@@ -4,56 +4,61 @@ use mathlib.Core.Path.{◌≡◌, refl, sym, ap, ◌∙◌}
 use mathlib.Core.Bool.{Bool, true, false, cond, not, ◌||◌, true≢false}
 use mathlib.Core.List.{List, [], ◌∷◌}
 use native.Mathlib.Omega.{arith}
-use borrow.Author.Tests.{lt-leb, leb-false, eq-eqb, eqb-true, eqb-false, ltb-true, ltb-false}
+use borrow.Author.Tests.{lt-leb, leb-false, eq-eqb, eqb-true, ltb-true, ltb-false}
 use lib.Dec.{leb, ltb, eqb}
 use lib.ListN.{length}
 use Rattle.lists.specs.Tables.{overwrite}
 use Rattle.lists.proofs.Choices.{by_cases}
-use Rattle.refusal.specs.Outcome.{given, unfilled}
+use Rattle.std.specs.Prelude.{Result}
+use Rattle.refusal.specs.declared.Fault.{Fault}
+use Rattle.refusal.specs.Outcome.{Outcome, given, refused, Filled, unfilled}
+use Rattle.refusal.proofs.Outcomes.{given-refused}
+use Rattle.walk.specs.declared.Advance.{Advance}
+use Rattle.walk.specs.declared.Step.{Step}
 use Rattle.walk.specs.declared.Walk.{Walk}
-use Rattle.walk.specs.declared.Item.{Item}
-use Rattle.walk.specs.Items.{bytes_of}
-use Rattle.walk.specs.Outcomes.{end, refused_at, Stepped, item, last, Advanced}
+use Rattle.walk.specs.Outcomes.{end, refused_at, Stepped, item, last, Advanced, step_outcome, advance_outcome}
 use Rattle.walk.specs.Walk.{next_at}
 use Rattle.walk.proofs.Laws.{refused-within, next_past}
-use Rattle.dfb_refusals.specs.Numbers.{above63, FilledNumber, filled_number, values_put}
-use Rattle.dfb_walk.specs.Next.{place_of, walk_of, kind_of, a_of, b_of, item_numbers, walk_left, walk_number, walk_refused, numbers_put, advance_answer, is_outside, walk_next}
+use Rattle.dfb_refusals.specs.Numbers.{values_put}
+use Rattle.dfb_walk.specs.Next.{place_of, walk_of, WalkOutcome, walk_refused, numbers_put, advance_answer, is_outside, walk_next}
 use Rattle.dfb_walk.specs.Private.{narrowed_walk}
 use Rattle.dfb_walk.specs.Claims.{Inside}
 use Rattle.dfb_walk.proofs.Narrowing.{same_answer}
 
 -- ---- five numbers put, and the walk written where they are accepted
 
-module _ (kind offset bytes a b : ℕ) (walk list list' : List ℕ) (n : ℕ)
-    (e : record { answer = n; buffer = list' } ≡ filled_number above63 (values_put (record { number = 0; values = kind ∷ offset ∷ bytes ∷ a ∷ b ∷ [] }) list)) where
+module _ (kind offset bytes a b : ℕ) (walk list list' : List ℕ) (q : Outcome ℕ)
+    (e : record { answer = q; buffer = list' } ≡ values_put (record { number = 0; values = kind ∷ offset ∷ bytes ∷ a ∷ b ∷ [] }) list) where
   abbrev five : List ℕ
   five = kind ∷ offset ∷ bytes ∷ a ∷ b ∷ []
 
-  pub both-put : (later walk' : List ℕ) → walk' ≡ later → n ≡ 0 → walk_left n walk' list' ≡ walk_number (numbers_put five later walk list)
-  both-put later walk' w z = ap (λ (l : List ℕ). walk_left n l list') w ∙ by (ltb (length list) 5) e
-    where
-      by : (t : Bool) → record { answer = n; buffer = list' } ≡ filled_number above63 (cond t (unfilled 2 list) (record { answer = given 0; buffer = overwrite five list }))
-          → walk_left n later list' ≡ walk_number (cond t (walk_refused 2 walk list) (record { answer = given 0; walk = later; item = overwrite five list }))
-      by true q = absurd (omega (arith, ap (λ (f : FilledNumber ℕ). f.answer) q, z))
-      by false q = ap (λ (f : FilledNumber ℕ). walk_left f.answer later f.buffer) q
+  abbrev left-by : List ℕ → Filled ℕ → WalkOutcome
+  left-by later f = record { answer = f.answer; walk = later; item = f.buffer }
 
-  pub none-put : (later : List ℕ) → (n ≡ 0 → ⊥) → walk_left n walk list' ≡ walk_number (numbers_put five later walk list)
-  none-put later z = by (ltb (length list) 5) e
+  pub put_given : (later : List ℕ) → q ≡ given 0 → record { answer = q; walk = later; item = list' } ≡ numbers_put five later walk list
+  put_given later z = by (ltb (length list) 5) e
     where
-      by : (t : Bool) → record { answer = n; buffer = list' } ≡ filled_number above63 (cond t (unfilled 2 list) (record { answer = given 0; buffer = overwrite five list }))
-          → walk_left n walk list' ≡ walk_number (cond t (walk_refused 2 walk list) (record { answer = given 0; walk = later; item = overwrite five list }))
-      by true q = ap (λ (f : FilledNumber ℕ). walk_left f.answer walk f.buffer) q
-      by false q = absurd (z (ap (λ (f : FilledNumber ℕ). f.answer) q))
+      by : (t : Bool) → record { answer = q; buffer = list' } ≡ cond t (unfilled 2 list) (record { answer = given 0; buffer = overwrite five list })
+          → record { answer = q; walk = later; item = list' } ≡ cond t (walk_refused 2 walk list) (record { answer = given 0; walk = later; item = overwrite five list })
+      by true p = absurd (given-refused 0 2 (sym z ∙ ap (λ (f : Filled ℕ). f.answer) p))
+      by false p = ap (left-by later) p
+
+  pub put_refused : (later : List ℕ) (n : ℕ) → q ≡ refused n → record { answer = q; walk = walk; item = list' } ≡ numbers_put five later walk list
+  put_refused later n z = by (ltb (length list) 5) e
+    where
+      by : (t : Bool) → record { answer = q; buffer = list' } ≡ cond t (unfilled 2 list) (record { answer = given 0; buffer = overwrite five list })
+          → record { answer = q; walk = walk; item = list' } ≡ cond t (walk_refused 2 walk list) (record { answer = given 0; walk = later; item = overwrite five list })
+      by true p = ap (left-by walk) p
+      by false p = absurd (given-refused 0 n (sym (ap (λ (f : Filled ℕ). f.answer) p) ∙ z))
 
   -- the walk stays
-  pub same-put : walk_left n walk list' ≡ walk_number (numbers_put five walk walk list)
-  same-put = by_cases (eqb n 0) (λ t. both-put walk walk refl (eqb-true n 0 t)) (λ t. none-put walk (eqb-false n 0 t))
-
--- the five numbers of an item
-pub five-of : (i : Item) (offset : ℕ) (list : List ℕ) {kind bytes a b : ℕ} → kind ≡ kind_of i → bytes ≡ bytes_of i → a ≡ a_of i → b ≡ b_of i
-    → filled_number above63 (values_put (record { number = 0; values = kind ∷ offset ∷ bytes ∷ a ∷ b ∷ [] }) list)
-    ≡ filled_number above63 (values_put (record { number = 0; values = item_numbers offset i }) list)
-five-of i offset list k n a b = λ j. filled_number above63 (values_put (record { number = 0; values = k j ∷ offset ∷ n j ∷ a j ∷ b j ∷ [] }) list)
+  pub put_same : record { answer = q; walk = walk; item = list' } ≡ numbers_put five walk walk list
+  put_same = by (ltb (length list) 5) e
+    where
+      by : (t : Bool) → record { answer = q; buffer = list' } ≡ cond t (unfilled 2 list) (record { answer = given 0; buffer = overwrite five list })
+          → record { answer = q; walk = walk; item = list' } ≡ cond t (walk_refused 2 walk list) (record { answer = given 0; walk = walk; item = overwrite five list })
+      by true p = ap (left-by walk) p
+      by false p = ap (left-by walk) p
 
 -- ---- what is refused before the walk
 
@@ -101,3 +106,8 @@ offset-lt log walk later r p short near e =
     let same : walk.at ≡ p = ap (λ (a : Advanced). offset_of a.step) (next_past log walk (ltb-true (length log) walk.at t) ∙ e) in
     omega (arith, same))
     (λ t. omega (arith, refused-within log walk r p later e (ltb-false (length log) walk.at t)))
+
+-- a step of the narrowed walk, by what it answered
+pub stepped : (log walk : List ℕ) (l : Walk) (a : Advance) (s : Result Step Fault) → l ≡ narrowed_walk walk → advance_outcome a ≡ next_at log l → a.step ≡ s
+    → next_at log (narrowed_walk walk) ≡ record { step = step_outcome s; walk = a.walk }
+stepped log walk l a s f e g = sym (e ∙ ap (next_at log) f) ∙ ap (λ (s : Result Step Fault). record { step = step_outcome s; walk = a.walk }) g

@@ -7,13 +7,13 @@ ghost use Rattle.refusal.specs.Outcome.{filled};
 ghost use Rattle.fields.specs.Samples.{sample_bytes, samples_at, put_outcome, get_outcome};
 ghost use Rattle.fields.specs.Private.{exchanged_bits, low_first_at};
 
-use refusal::{Refusal, Written};
+use refusal::Refusal;
 
 // 16 bits with their two bytes exchanged.
 fn exchanged(bits: u16) -> u16
     ensures { result ≡ exchanged_bits bits }
 {
-    words::pair((bits % 256) as u8, (bits / 256) as u8)
+    bits.swap_bytes()
 }
 
 // Writes 16 bits at the place of sample i, low byte first: the compiler makes one store of it, and of a loop of them wide ones.
@@ -21,11 +21,12 @@ fn put_low_first(bits: u16, i: usize, out: &mut [u8])
     requires { 2 * i + 2 ≤ length out.old }
     ensures { out.new ≡ set (set out.old (2 * i) (bits % 256)) (2 * i + 1) (bits / 256) }
 {
-    out[2 * i] = (bits % 256) as u8;
-    out[2 * i + 1] = (bits / 256) as u8;
+    let [low, high] = bits.to_le_bytes();
+    out[2 * i] = low;
+    out[2 * i + 1] = high;
 }
 
-// Writes the bytes of each sample.
+// Writes the bytes of each sample, where there is room for all.
 fn put_each(samples: &[i16], out: &mut [u8])
     requires { 2 * length samples.now ≤ length out.old }
     ensures { out.new ≡ overwrite (sample_bytes samples.now) out.old }
@@ -36,14 +37,14 @@ fn put_each(samples: &[i16], out: &mut [u8])
 }
 
 // Writes samples; answers the number of bytes written. Refused by 2.
-pub fn put_samples(samples: &[i16], out: &mut [u8]) -> Written
+pub fn put_samples(samples: &[i16], out: &mut [u8]) -> Result<usize, Refusal>
     ensures { filled result out.new ≡ put_outcome samples.now out.old }
 {
     if out.len() / 2 < samples.len() {
-        return Written::Refused(Refusal::WrongLength);
+        return Err(Refusal::WrongLength);
     }
     put_each(samples, out);
-    Written::Count(2 * samples.len())
+    Ok(2 * samples.len())
 }
 
 // The 16 bits at the place of sample i, low byte first: one load, as above.
@@ -51,7 +52,7 @@ fn low_first_at(bytes: &[u8], i: usize) -> u16
     requires { 2 * i + 2 ≤ length bytes.now }
     ensures { result ≡ low_first_at bytes.now i }
 {
-    words::pair(bytes[2 * i + 1], bytes[2 * i])
+    u16::from_le_bytes([bytes[2 * i], bytes[2 * i + 1]])
 }
 
 // Reads n samples.
@@ -65,16 +66,16 @@ fn get_each(bytes: &[u8], n: usize, samples: &mut [i16])
 }
 
 // Reads all samples of the bytes; answers the number of samples written. Refused by 2.
-pub fn get_samples(bytes: &[u8], samples: &mut [i16]) -> Written
+pub fn get_samples(bytes: &[u8], samples: &mut [i16]) -> Result<usize, Refusal>
     ensures { filled result samples.new ≡ get_outcome bytes.now samples.old }
 {
     if bytes.len() % 2 != 0 {
-        return Written::Refused(Refusal::WrongLength);
+        return Err(Refusal::WrongLength);
     }
     let n = bytes.len() / 2;
     if samples.len() < n {
-        return Written::Refused(Refusal::WrongLength);
+        return Err(Refusal::WrongLength);
     }
     get_each(bytes, n, samples);
-    Written::Count(n)
+    Ok(n)
 }

@@ -6,26 +6,18 @@ ghost use Rattle.input.specs.Input.{Within};
 use std::io;
 use std::io::Read;
 
-// The bytes read up to the input's end or the buffer's, or a read that failed.
-#[derive(Clone, Copy)]
-pub enum Input {
-    Bytes(usize),
-    Failed(io::Error),
-}
-
-// Reads until the input ends or buf is full.
-pub fn read_input<R: Read>(reader: &mut R, buf: &mut [u8]) -> Input
+// Reads until the input ends or buf is full; answers the number of bytes read, or the read's error.
+pub fn read_input<R: Read>(reader: &mut R, buf: &mut [u8]) -> io::Result<usize>
     ensures { Within result buf.new }
 {
     let mut done: usize = 0;
     while done < buf.len() {
-        match reader.read(&mut buf[done..]) {
-            Ok(0) => return Input::Bytes(done),
-            Ok(n) => done += n,
-            Err(e) => return Input::Failed(e),
+        match reader.read(&mut buf[done..])? {
+            0 => return Ok(done),
+            n => done += n,
         }
     }
-    Input::Bytes(done)
+    Ok(done)
 }
 
 // What failed, without the number that the library puts behind the system's words.

@@ -2,10 +2,8 @@
 use Rattle.std.specs.Prelude.{ℕ, zero, suc, ◌+◌, ◌-◌, Bool, true, false, cond, ◌&&◌, ◌||◌, List, length, get_or, leb, ltb, eqb}
 use Rattle.lists.specs.Sums.{all_to}
 use Rattle.lists.specs.Lowest.{lowest}
-use Rattle.refusal.specs.Number.{number_of}
 use Rattle.refusal.specs.Outcome.{Outcome, given, refused}
 use Rattle.interval.specs.declared.Interval.{Interval}
-use Rattle.interval.specs.declared.IntervalAnswer.{IntervalAnswer}
 use Rattle.interval.specs.declared.Growing.{Growing}
 
 abbrev pub criterion : List ℕ → ℕ → ℕ
@@ -70,10 +68,6 @@ interval_of index bonus limit =
       first = (grown index bonus limit (start_of index) (length index)).first;
       last = (grown index bonus limit (start_of index) (length index)).last;
     }
-
-abbrev pub interval_answer_outcome : IntervalAnswer → Outcome Interval
-interval_answer_outcome (IntervalAnswer.Interval i) = given i
-interval_answer_outcome (IntervalAnswer.Refused r) = refused (number_of r)
 
 -- refused by 2, 29, then 26; else the interval
 unfoldable pub interval_outcome : List ℕ → ℕ → ℕ → Outcome Interval

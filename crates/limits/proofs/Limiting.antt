@@ -44,16 +44,17 @@ module _ (setting m : ℕ) where
   -- one band more
   pub limits-more : (l : List ℕ) (b half : ℕ) → 2 * 2 ^ size_exponent setting ≤ b → b < length l →
       ((i : ℕ) → i < b → get_or l i 0 ≡ band_limit setting m i) → half ≡ get_or l (b - 2 ^ size_exponent setting) 0 → 0 < 2 ^ size_exponent setting →
-      (i : ℕ) → i < b + 1 → get_or (set l b (half + half)) i 0 ≡ band_limit setting m i
+      (i : ℕ) → i < b + 1 → get_or (set l b (2 * half)) i 0 ≡ band_limit setting m i
   limits-more l b half wide inside before e some =
       let s : ℕ = size_exponent setting in
       let w : ℕ = band_width s (b - 2 ^ s) in
       let is : half ≡ m * w * (2 ^ 32 - 1) = e ∙ before (b - 2 ^ s) (omega arith) in
-      let sum : band_limit setting m b ≡ half + half =
-      ap (λ (x : ℕ). m * x * (2 ^ 32 - 1)) (width-doubles s b wide) ∙ ap (λ (x : ℕ). x * (2 ^ 32 - 1)) (mul-add m w w) ∙ add-mul (m * w) (m * w) (2 ^ 32 - 1) ∙ ap₂ ◌+◌ (sym is) (sym is) in
-      below_more (λ i. get_or (set l b (half + half)) i 0 ≡ band_limit setting m i) b
-      (λ i h. get_or-set_other l b i (half + half) 0 (λ q. omega arith) ∙ before i h)
-      (get_or-set_same l b (half + half) 0 inside ∙ sym sum)
+      let twice : half + half ≡ 2 * half = omega arith in
+      let sum : band_limit setting m b ≡ 2 * half =
+      ap (λ (x : ℕ). m * x * (2 ^ 32 - 1)) (width-doubles s b wide) ∙ ap (λ (x : ℕ). x * (2 ^ 32 - 1)) (mul-add m w w) ∙ add-mul (m * w) (m * w) (2 ^ 32 - 1) ∙ ap₂ ◌+◌ (sym is) (sym is) ∙ twice in
+      below_more (λ i. get_or (set l b (2 * half)) i 0 ≡ band_limit setting m i) b
+      (λ i h. get_or-set_other l b i (2 * half) 0 (λ q. omega arith) ∙ before i h)
+      (get_or-set_same l b (2 * half) 0 inside ∙ sym sum)
 
 -- ---- a row
 
@@ -61,17 +62,17 @@ module _ (bands : ℕ) (limits row : List ℕ) (few : bands ≤ 112) (limits-lon
   abbrev test : ℕ → Bool
   test b = leb (get_or row b 0) (cond (ltb b bands) (get_or limits b 0) 0)
 
-  pub row_on : all_within (take bands row) (take bands limits) && all_zero (take (length row - bands) (drop bands row)) ≡ row_within true bands limits row
+  pub row_on : all_within (take bands row) (take bands limits) && all_zero (take (112 - bands) (drop bands row)) ≡ row_within true bands limits row
   unfolding all_within all_zero row_within
   row_on =
       let all : bands + (112 - bands) ≡ 112 = omega arith in
       let front : length (take bands row) ≡ bands = omega (arith, length-take bands row) in
-      let back : length (take (length row - bands) (drop bands row)) ≡ 112 - bands = omega (arith, length-take (length row - bands) (drop bands row), length-drop bands row) in
+      let back : length (take (112 - bands) (drop bands row)) ≡ 112 - bands = omega (arith, length-take (112 - bands) (drop bands row), length-drop bands row) in
       ap₂ ◌&&◌
       (ap (λ (n : ℕ). all_to n (λ i. leb (get_or (take bands row) i 0) (get_or (take bands limits) i 0))) front
       ∙ all_to-ext bands _ test (λ i h. ap₂ leb (get_or-take bands row i 0 h) (get_or-take bands limits i 0 h ∙ sym (ap (λ (t : Bool). cond t (get_or limits i 0) 0) (lt-ltb i bands h)))))
-      (ap (λ (n : ℕ). all_to n (λ i. leb (get_or (take (length row - bands) (drop bands row)) i 0) 0)) back
-      ∙ all_to-ext (112 - bands) _ (λ j. test (bands + j)) (λ i h. ap₂ leb (get_or-take (length row - bands) (drop bands row) i 0 (omega arith) ∙ get_or-drop bands row i 0) (sym (ap (λ (t : Bool). cond t (get_or limits (bands + i) 0) 0) (le-ltb (bands + i) bands (omega arith))))))
+      (ap (λ (n : ℕ). all_to n (λ i. leb (get_or (take (112 - bands) (drop bands row)) i 0) 0)) back
+      ∙ all_to-ext (112 - bands) _ (λ j. test (bands + j)) (λ i h. ap₂ leb (get_or-take (112 - bands) (drop bands row) i 0 (omega arith) ∙ get_or-drop bands row i 0) (sym (ap (λ (t : Bool). cond t (get_or limits (bands + i) 0) 0) (le-ltb (bands + i) bands (omega arith))))))
       ∙ sym (all_to-add test bands (112 - bands))
       ∙ ap (λ (n : ℕ). all_to n test) all
 

@@ -17,7 +17,6 @@ abbrev pub band_limit : ℕ → ℕ → ℕ → ℕ
 band_limit setting m b = m * band_width (size_exponent setting) b * (2 ^ 32 - 1)
 
 pub record Limits (setting m : ℕ) (limits : List ℕ) : Type 0 where
-  pub limits-length : length limits ≡ 112
   pub limit : (b : ℕ) → b < band_count setting → get_or limits b 0 ≡ band_limit setting m b
 
 -- the totals of a processor of so many bands, and of all; those not in use are 0

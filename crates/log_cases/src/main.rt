@@ -6,11 +6,11 @@
 // and the reader's place after it.
 #![tactic(auto)]
 
-ghost use Rattle.std.specs.Prelude.{◌≡◌, ◌+◌, ◌*◌, ◌≤◌, length, IfOk};
+ghost use Rattle.std.specs.Prelude.{◌≤◌, IfOk};
 
-use board_log::{Command, Read, Record, Word};
-use input::{Input, read_input};
-use refusal::{Refusal, Written};
+use board_log::{Command, Entry, Kind, Record, Word};
+use input::read_input;
+use refusal::Refusal;
 use std::io;
 use std::io::{BufWriter, Write};
 
@@ -22,39 +22,18 @@ fn expect<W: Write>(writer: &mut W, ok: bool) -> io::Result<()> {
     Ok(())
 }
 
-fn show_byte<W: Write>(writer: &mut W, byte: u8) -> io::Result<()> {
-    write!(writer, "{byte:02x}")
-}
-
 // Prints bytes, two hexadecimal digits each, and a line end.
 fn show_bytes<W: Write>(writer: &mut W, bytes: &[u8]) -> io::Result<()> {
-    for i in 0..bytes.len() {
-        show_byte(writer, bytes[i])?;
+    for byte in bytes {
+        write!(writer, "{byte:02x}")?;
     }
     writer.write_all(b"\n")
 }
 
-// A sample without its sign.
-fn magnitude(sample: i16) -> u16 {
-    if sample < 0 {
-        (!sample) as u16 + 1
-    } else {
-        sample as u16
-    }
-}
-
-fn show_sample<W: Write>(writer: &mut W, sample: i16) -> io::Result<()> {
-    writer.write_all(b" ")?;
-    if sample < 0 {
-        writer.write_all(b"-")?;
-    }
-    write!(writer, "{}", magnitude(sample))
-}
-
 // Prints samples in decimal, and a line end.
 fn show_samples<W: Write>(writer: &mut W, samples: &[i16]) -> io::Result<()> {
-    for i in 0..samples.len() {
-        show_sample(writer, samples[i])?;
+    for sample in samples {
+        write!(writer, " {sample}")?;
     }
     writer.write_all(b"\n")
 }
@@ -63,55 +42,32 @@ fn show_refusal<W: Write>(writer: &mut W, refusal: Refusal) -> io::Result<()> {
     write!(writer, "refused {}", refusal::number(refusal))
 }
 
-fn show_written<W: Write>(writer: &mut W, written: Written) -> io::Result<()> {
+fn show_written<W: Write>(writer: &mut W, written: Result<usize, Refusal>) -> io::Result<()> {
     match written {
-        Written::Count(n) => {
-            write!(writer, "{n}")?;
-        }
-        Written::Refused(refusal) => show_refusal(writer, refusal)?,
+        Ok(n) => write!(writer, "{n}"),
+        Err(refusal) => show_refusal(writer, refusal),
     }
-    Ok(())
-}
-
-// Prints a byte and 16 bits.
-fn show_pair<W: Write>(writer: &mut W, first: u8, second: u16) -> io::Result<()> {
-    show_byte(writer, first)?;
-    write!(writer, " {second:04x}")
 }
 
 fn show_record<W: Write>(writer: &mut W, rec: Record) -> io::Result<()> {
     match rec {
-        Record::Command(c) => {
-            writer.write_all(b"command ")?;
-            show_pair(writer, c.id, c.information)?;
-        }
-        Record::Word(w) => {
-            writer.write_all(b"word ")?;
-            show_pair(writer, w.apid, w.bits)?;
-        }
-        Record::SecondMark(seconds) => {
-            write!(writer, "mark {seconds}")?;
-        }
-        Record::Tick => {
-            writer.write_all(b"tick")?;
-        }
+        Record::Command(c) => write!(writer, "command {:02x} {:04x}", c.id, c.information),
+        Record::Word(w) => write!(writer, "word {:02x} {:04x}", w.apid, w.bits),
+        Record::SecondMark(seconds) => write!(writer, "mark {seconds}"),
+        Record::Tick => write!(writer, "tick"),
     }
-    Ok(())
 }
 
 // Prints an answer, a record with the place after it.
-fn show_answer<W: Write>(writer: &mut W, read: Read) -> io::Result<()> {
+fn show_answer<W: Write>(writer: &mut W, read: Result<Option<Entry>, Refusal>) -> io::Result<()> {
     match read {
-        Read::Record(rec, next) => {
-            show_record(writer, rec)?;
-            write!(writer, " to {next}")?;
+        Ok(Some(entry)) => {
+            show_record(writer, entry.record)?;
+            write!(writer, " to {}", entry.next)
         }
-        Read::End => {
-            writer.write_all(b"end")?;
-        }
-        Read::Refused(refusal) => show_refusal(writer, refusal)?,
+        Ok(None) => write!(writer, "end"),
+        Err(refusal) => show_refusal(writer, refusal),
     }
-    Ok(())
 }
 
 // A length that the case has; of more than most, most.
@@ -120,74 +76,53 @@ fn at_most<W: Write>(writer: &mut W, n: u8, most: usize) -> io::Result<usize>
 {
     let length = n as usize;
     expect(writer, length <= most)?;
-    Ok(if length <= most { length } else { most })
-}
-
-// The sample of two bytes of a case.
-fn sample(high: u8, low: u8) -> i16 {
-    let excess = high as u16 * 256 + low as u16;
-    if excess < 32768 {
-        !((32767 - excess) as i16)
-    } else {
-        (excess - 32768) as i16
-    }
+    Ok(length.min(most))
 }
 
 // Fills samples from bytes, two for each.
-fn get_samples(bytes: &[u8], samples: &mut [i16])
-    requires { 2 * length samples.old ≤ length bytes.now }
-{
-    let mut i = 0;
-    while i < samples.len() {
-        samples[i] = sample(bytes[2 * i], bytes[2 * i + 1]);
-        i += 1;
+fn get_samples(bytes: &[u8], samples: &mut [i16]) {
+    let (pairs, _) = bytes.as_chunks::<2>();
+    for (sample, pair) in samples.iter_mut().zip(pairs) {
+        *sample = u16::from_be_bytes(*pair).wrapping_sub(0x8000).cast_signed();
     }
 }
 
 // The bytes used, or the place, of a case.
-fn number(case: &[u8]) -> u64
-    requires { 80 ≡ length case.now }
-{
-    let high = quad(case[8], case[9], case[10], case[11]);
-    let low = quad(case[12], case[13], case[14], case[15]);
-    high as u64 * 4294967296 + low as u64
+fn number(case: &[u8; 80]) -> u64 {
+    u64::from_be_bytes([
+        case[8], case[9], case[10], case[11], case[12], case[13], case[14], case[15],
+    ])
 }
 
-// 32 bits of four bytes, high byte first.
-fn quad(a: u8, b: u8, c: u8, d: u8) -> u32 {
-    a as u32 * 16777216 + b as u32 * 65536 + c as u32 * 256 + d as u32
-}
-
-// 16 bits of two bytes, high byte first.
-fn pair(a: u8, b: u8) -> u16 {
-    a as u16 * 256 + b as u16
-}
-
-// The record of a kind, with a body of the first of four bytes.
-fn record_of<W: Write>(writer: &mut W, kind: u8, a: u8, b: u8, c: u8, d: u8) -> io::Result<Record> {
-    if kind == 1 {
-        return Ok(Record::Command(Command {
-            id: a,
-            information: pair(b, c),
-        }));
+// The record of a kind, with the case's body.
+fn record_of<W: Write>(writer: &mut W, kind: u8, case: &[u8; 80]) -> io::Result<Record> {
+    match Kind::try_from(kind) {
+        Ok(Kind::Command) => Ok(Record::Command(Command {
+            id: case[4],
+            information: words::pair(case[5], case[6]),
+        })),
+        Ok(Kind::Word) => Ok(Record::Word(Word {
+            apid: case[4],
+            bits: words::pair(case[5], case[6]),
+        })),
+        Ok(Kind::SecondMark) => Ok(Record::SecondMark(u32::from_be_bytes([
+            case[4], case[5], case[6], case[7],
+        ]))),
+        Ok(Kind::Tick) => Ok(Record::Tick),
+        Err(_) => {
+            expect(writer, false)?;
+            Ok(Record::Tick)
+        }
     }
-    if kind == 2 {
-        return Ok(Record::Word(Word {
-            apid: a,
-            bits: pair(b, c),
-        }));
-    }
-    if kind == 3 {
-        return Ok(Record::SecondMark(quad(a, b, c, d)));
-    }
-    expect(writer, kind == 4)?;
-    Ok(Record::Tick)
 }
 
 // Packs the samples into the case's buffer.
-fn show_pack<W: Write>(writer: &mut W, apid: u8, samples: &[i16], case: &mut [u8]) -> io::Result<()>
-    requires { 80 ≡ length case.old }
-{
+fn show_pack<W: Write>(
+    writer: &mut W,
+    apid: u8,
+    samples: &[i16],
+    case: &mut [u8; 80],
+) -> io::Result<()> {
     let end = 48 + at_most(writer, case[3], 32)?;
     writer.write_all(b"pack ")?;
     show_written(writer, sets::pack(apid, samples, &mut case[48..end]))?;
@@ -199,101 +134,73 @@ fn show_pack<W: Write>(writer: &mut W, apid: u8, samples: &[i16], case: &mut [u8
 fn show_unpack<W: Write>(
     writer: &mut W,
     apid: u8,
-    case: &[u8],
-    samples: &mut [i16],
-) -> io::Result<()>
-    requires { (80 ≡ length case.now) × (16 ≡ length samples.old) }
-{
+    case: &[u8; 80],
+    samples: &mut [i16; 16],
+) -> io::Result<()> {
     let end = 16 + at_most(writer, case[2], 32)?;
     let room = at_most(writer, case[3], 16)?;
     writer.write_all(b"unpack ")?;
     show_written(
         writer,
-        sets::unpack(apid, &case[16..end], &mut samples[0..room]),
+        sets::unpack(apid, &case[16..end], &mut samples[..room]),
     )?;
     show_samples(writer, samples)
 }
 
 // Appends the case's record to its buffer.
-fn show_append<W: Write>(writer: &mut W, kind: u8, case: &mut [u8]) -> io::Result<()>
-    requires { 80 ≡ length case.old }
-{
+fn show_append<W: Write>(writer: &mut W, kind: u8, case: &mut [u8; 80]) -> io::Result<()> {
     let end = 48 + at_most(writer, case[3], 32)?;
     let used = number(case) as usize;
-    let rec = record_of(writer, kind, case[4], case[5], case[6], case[7])?;
+    let rec = record_of(writer, kind, case)?;
     writer.write_all(b"append ")?;
     show_written(writer, board_log::append(&mut case[48..end], used, rec))?;
     writer.write_all(b" ")?;
     show_bytes(writer, &case[48..])
 }
 
-// Has a reader at a place hand out, and shows its answer and its place; answers the place.
-fn show_step<W: Write>(writer: &mut W, log: &[u8], at: usize) -> io::Result<usize> {
-    let handed = reader::hand_out(log, at);
-    let read = handed.read;
-    let next = handed.at;
-    writer.write_all(b" ")?;
-    show_answer(writer, read)?;
-    write!(writer, " at {next};")?;
-    Ok(next)
-}
-
-// Reads a log from a place on, so many times.
+// Reads a log from a place on, so many times, each by a reader at the place that the one before left.
 fn show_log<W: Write>(writer: &mut W, log: &[u8], from: usize, times: u8) -> io::Result<()> {
     let mut at = from;
     writer.write_all(b"read")?;
     for _ in 0..times {
-        at = show_step(writer, log, at)?;
+        let handed = reader::hand_out(log, at);
+        at = handed.at;
+        writer.write_all(b" ")?;
+        show_answer(writer, handed.read)?;
+        write!(writer, " at {at};")?;
     }
     writer.write_all(b"\n")
 }
 
 // Reads the case's log from its place on.
-fn show_reading<W: Write>(writer: &mut W, case: &[u8]) -> io::Result<()>
-    requires { 80 ≡ length case.now }
-{
+fn show_reading<W: Write>(writer: &mut W, case: &[u8; 80]) -> io::Result<()> {
     let end = 16 + at_most(writer, case[2], 64)?;
     show_log(writer, &case[16..end], number(case) as usize, case[3])
 }
 
 // Makes the call of a case and shows what it leaves.
-fn show_case<W: Write>(writer: &mut W, case: &mut [u8], samples: &mut [i16]) -> io::Result<()>
-    requires { (80 ≡ length case.old) × (16 ≡ length samples.old) }
-{
-    let call = case[0];
-    let key = case[1];
-    if call == 1 {
-        get_samples(&case[16..48], samples);
-        let n = at_most(writer, case[2], 16)?;
-        show_pack(writer, key, &samples[0..n], case)?;
-    } else if call == 2 {
-        get_samples(&case[48..], samples);
-        show_unpack(writer, key, case, samples)?;
-    } else if call == 3 {
-        show_append(writer, key, case)?;
-    } else {
-        expect(writer, call == 4)?;
-        show_reading(writer, case)?;
-    }
-    Ok(())
-}
-
-// Shows each case of the first n bytes of input.
-fn show_cases<W: Write>(
+fn show_case<W: Write>(
     writer: &mut W,
-    input: &mut [u8],
-    n: usize,
-    samples: &mut [i16],
-) -> io::Result<()>
-    requires { (n ≤ length input.old) × (n + 80 ≤ 4294967296) × (16 ≡ length samples.old) }
-{
-    let mut at: usize = 0;
-    while at + 80 <= n {
-        let next = at + 80;
-        show_case(writer, &mut input[at..next], samples)?;
-        at = next;
+    case: &mut [u8; 80],
+    samples: &mut [i16; 16],
+) -> io::Result<()> {
+    let key = case[1];
+    match case[0] {
+        1 => {
+            get_samples(&case[16..48], samples);
+            let n = at_most(writer, case[2], 16)?;
+            show_pack(writer, key, &samples[..n], case)
+        }
+        2 => {
+            get_samples(&case[48..], samples);
+            show_unpack(writer, key, case, samples)
+        }
+        3 => show_append(writer, key, case),
+        call => {
+            expect(writer, call == 4)?;
+            show_reading(writer, case)
+        }
     }
-    expect(writer, at == n)
 }
 
 // Shows the cases of standard input, which is read into input.
@@ -301,21 +208,23 @@ fn show_input<R: io::Read, W: Write>(
     reader: &mut R,
     writer: &mut W,
     input: &mut [u8],
-    samples: &mut [i16],
-) -> io::Result<()>
-    requires { (length input.old + 80 ≤ 4294967296) × (16 ≡ length samples.old) }
-{
-    let Input::Bytes(n) = read_input(reader, input) else {
+) -> io::Result<()> {
+    let Ok(n) = read_input(reader, input) else {
         return expect(writer, false);
     };
-    show_cases(writer, input, n, samples)
+    let mut samples = [0i16; 16];
+    let (cases, rest) = input[..n].as_chunks_mut::<80>();
+    let whole = rest.is_empty();
+    for case in cases {
+        show_case(writer, case, &mut samples)?;
+    }
+    expect(writer, whole)
 }
 
 fn main(rt: HostRuntime) -> io::Result<()> {
     let mut writer = BufWriter::new(rt.alloc(), io::writer(&rt))?;
     let mut reader = rt.stdin();
     let mut input = [0u8; 65536];
-    let mut samples = [0i16; 16];
-    show_input(&mut reader, &mut writer, &mut input, &mut samples)?;
+    show_input(&mut reader, &mut writer, &mut input)?;
     writer.flush()
 }

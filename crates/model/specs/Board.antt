@@ -1,13 +1,14 @@
 -- 01, "Periods" and "Refusal numbers", and 02, ticket 13: what a command and a tick do to the state, the totals passed and the output
 -- passed. The functions `command` and `tick` of crate `board` ensure these definitions, and demand 3 is proved of them.
-use Rattle.std.specs.Prelude.{ℕ, ◌+◌, ◌-◌, ◌*◌, ◌^◌, min, Bool, cond, ◌&&◌, ◌||◌, not, List, length, leb, ltb, eqb}
+use Rattle.std.specs.Prelude.{ℕ, ◌+◌, ◌-◌, ◌*◌, ◌^◌, min, Bool, cond, ◌&&◌, ◌||◌, not, List, length, leb, ltb, eqb, Result, Ok, Err}
 use Rattle.lists.specs.Sums.{all_to}
 use Rattle.lists.specs.Tables.{overwrite}
 use Rattle.refusal.specs.Number.{number_of}
-use Rattle.refusal.specs.Outcome.{Outcome, given}
+use Rattle.refusal.specs.declared.Refusal.{Refusal}
+use Rattle.refusal.specs.Outcome.{Outcome, given, answer_outcome}
 use Rattle.refusal.specs.Outcome as outcome
 use Rattle.registers.specs.Store.{stored}
-use Rattle.registers.specs.Access.{is_id, at_reset, stored_to, registers_sound, answer_outcome}
+use Rattle.registers.specs.Access.{is_id, at_reset, stored_to, registers_sound}
 use Rattle.settings.specs.Settings.{averaged_spectra, period_ticks, running_of, spec_words}
 use Rattle.registers.specs.declared.Registers.{Registers}
 use Rattle.model.specs.Reply.{Reply, refused, stores, idle, collected, waiting, reported}
@@ -93,12 +94,12 @@ pub record TickOutcome : Type 0 where
   pub totals : List ℕ
   pub out : List ℕ
 
-abbrev pub tick_reply : TickAnswer → Reply ℕ
-tick_reply TickAnswer.Idle = idle
-tick_reply TickAnswer.Collected = collected
-tick_reply (TickAnswer.Reported words) = reported words
-tick_reply TickAnswer.Waiting = waiting
-tick_reply (TickAnswer.Refused n) = refused (number_of n)
+abbrev pub tick_reply : Result TickAnswer Refusal → Reply ℕ
+tick_reply (Ok TickAnswer.Idle) = idle
+tick_reply (Ok TickAnswer.Collected) = collected
+tick_reply (Ok (TickAnswer.Reported words)) = reported words
+tick_reply (Ok TickAnswer.Waiting) = waiting
+tick_reply (Err r) = refused (number_of r)
 
 abbrev pub ticked_outcome : Ticked → List ℕ → List ℕ → TickOutcome
 ticked_outcome r totals out = record { answer = tick_reply r.answer; state = r.state; totals = totals; out = out }

@@ -4,11 +4,12 @@
 #![tactic(auto)]
 
 ghost use Rattle.std.specs.Prelude.{◌≡◌};
-ghost use Rattle.registers.specs.Access.{answer_outcome, register_read};
+ghost use Rattle.refusal.specs.Outcome.{answer_outcome};
+ghost use Rattle.registers.specs.Access.{register_read};
 ghost use Rattle.model.specs.Board.{reset_state};
 
 use refusal::Refusal;
-use registers::{Answer, Registers};
+use registers::Registers;
 
 // The registers, the phase in ticks since the period began, and the reports since the last accepted command, counted up to 65,535.
 #[derive(Clone, Copy)]
@@ -21,7 +22,7 @@ pub struct State {
 // The answer of a command, which is the value stored, and the state after it.
 #[derive(Clone, Copy)]
 pub struct Commanded {
-    pub answer: Answer,
+    pub answer: Result<u16, Refusal>,
     pub state: State,
 }
 
@@ -32,13 +33,12 @@ pub enum TickAnswer {
     Collected,
     Reported(u16),
     Waiting,
-    Refused(Refusal),
 }
 
 // The answer of a tick, and the state after it.
 #[derive(Clone, Copy)]
 pub struct Ticked {
-    pub answer: TickAnswer,
+    pub answer: Result<TickAnswer, Refusal>,
     pub state: State,
 }
 
@@ -70,17 +70,17 @@ impl State {
     }
 
     // The stored value of the register of the ID. Refused by 3, for the registers only, then 1.
-    pub fn read(self, id: u8) -> Answer
+    pub fn read(self, id: u8) -> Result<u16, Refusal>
         ensures { answer_outcome result ≡ register_read self.registers id }
     {
         let registers = self.registers;
         if !registers.is_sound() {
-            return Answer::Refused(Refusal::UnsoundState);
+            return Err(Refusal::UnsoundState);
         }
         if !registers::is_id(id) {
-            return Answer::Refused(Refusal::UnknownCommand);
+            return Err(Refusal::UnknownCommand);
         }
         let n = (id - Registers::FIRST_ID) as usize;
-        Answer::Value(registers.value[n])
+        Ok(registers.value[n])
     }
 }

@@ -1,7 +1,7 @@
 -- What a call answers, in the terms of 01: a value, or the number of a refusal.
-use Rattle.std.specs.Prelude.{ℕ, Bool, true, false, List}
+use Rattle.std.specs.Prelude.{ℕ, Bool, true, false, List, Result, Ok, Err}
 use Rattle.refusal.specs.Number.{number_of}
-use Rattle.refusal.specs.declared.Written.{Written}
+use Rattle.refusal.specs.declared.Refusal.{Refusal}
 
 pub data Outcome (A : Type 0) : Type 0 where
   given : A → Outcome A
@@ -22,12 +22,13 @@ pub record Filled (A : Type 0) : Type 0 where
   pub answer : Outcome ℕ
   pub buffer : List A
 
-abbrev pub written_outcome : Written → Outcome ℕ
-written_outcome (Written.Count n) = given n
-written_outcome (Written.Refused r) = refused (number_of r)
+-- what a function answers, in these terms
+abbrev pub answer_outcome : {A : Type 0} → Result A Refusal → Outcome A
+answer_outcome (Ok a) = given a
+answer_outcome (Err r) = refused (number_of r)
 
-abbrev pub filled : {A : Type 0} → Written → List A → Filled A
-filled w buffer = record { answer = written_outcome w; buffer = buffer }
+abbrev pub filled : {A : Type 0} → Result ℕ Refusal → List A → Filled A
+filled w buffer = record { answer = answer_outcome w; buffer = buffer }
 
 -- refused: the buffer is as it was
 abbrev pub unfilled : {A : Type 0} → ℕ → List A → Filled A

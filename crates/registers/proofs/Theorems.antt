@@ -1,6 +1,8 @@
 -- What 01 says of the registers as a whole. A register is sound exactly if a write can store it. Reset gives sound registers, and a
 -- write keeps them sound. Writing back what was read stores the same value again and changes nothing. A write changes one register only,
 -- and a read of that register gives the value stored. Assumes nothing.
+use Rattle.refusal.specs.declared.Refusal.{Refusal}
+use Rattle.std.specs.Prelude.{Err, Ok, Result}
 use Prim.Native.Nat.{ℕ, ◌-◌, ◌≤◌, ◌<◌}
 use mathlib.Core.Path.{◌≡◌, refl, sym, ap, subst, ◌∙◌}
 use mathlib.Core.Bool.{true, ◌&&◌, true≢false}
@@ -12,13 +14,12 @@ use lib.Seq.{set-get_or, get_or-set_same, get_or-set_other, set_out}
 use Rattle.lists.specs.Sums.{all_to}
 use Rattle.lists.proofs.Choices.{by_cases, both}
 use Rattle.lists.proofs.Sums.{all_to-of, all_to-at}
-use Rattle.refusal.specs.Outcome.{given}
+use Rattle.refusal.specs.Outcome.{given, answer_outcome}
 use Rattle.refusal.proofs.Outcomes.{refused-given}
 use Rattle.registers.specs.Store.{source_of, bins_of, navg_of, ncad_of, high_stored, low_stored, stored_at, stored, can_store}
-use Rattle.registers.specs.Access.{answer_outcome, register, storable, registers_sound, is_id, stored_to, register_read, write_outcome}
+use Rattle.registers.specs.Access.{register, storable, registers_sound, is_id, stored_to, register_read, write_outcome}
 use Rattle.registers.specs.Claims.{CanStore, FirstExactly, OthersExactly, ResetSound, WriteSound, WriteBack, WriteOne, ReadWritten}
 use Rattle.registers.specs.declared.Registers.{Registers}
-use Rattle.registers.specs.declared.Answer.{Answer}
 use Rattle.registers.proofs.Laws.{id_range}
 use Rattle.registers.proofs.Stored.{stored-again, stored-lt, source-over, first-can, other-can}
 
@@ -114,9 +115,9 @@ unfolding write_outcome
 write-takes r id v h known = rw (h, known)
 
 -- an answer that gives a value is that value
-pub answer-given : (a : Answer) (v : ℕ) → answer_outcome a ≡ given v → a ≡ Answer.Value v
-answer-given (Answer.Value u) v e = let same : u ≡ v = cc in ap Answer.Value same
-answer-given (Answer.Refused r) v e = absurd (refused-given _ v e)
+pub answer-given : (a : Result ℕ Refusal) (v : ℕ) → answer_outcome a ≡ given v → a ≡ Ok v
+answer-given (Ok u) v e = let same : u ≡ v = cc in ap Ok same
+answer-given (Err r) v e = absurd (refused-given _ v e)
 
 -- writing back what was read stores the same value again and changes nothing
 pub write-back : WriteBack

@@ -1,12 +1,10 @@
 -- Fields, reset, store and read of the seven registers (01, "Registers 0x30 to 0x36" and "Refusal numbers").
 use Rattle.std.specs.Prelude.{ℕ, ◌-◌, Bool, cond, not, ◌&&◌, leb, get_or, set, replicate}
 use Rattle.lists.specs.Sums.{all_to}
-use Rattle.refusal.specs.Number.{number_of}
-use Rattle.refusal.specs.Outcome.{Outcome, given, refused}
+use Rattle.refusal.specs.Outcome.{Outcome, given, refused, answer_outcome}
 use Rattle.registers.specs.Store.{source_of, enable_of, bins_of, navg_of, ncad_of, stored, can_store}
 use Rattle.registers.specs.declared.Fields.{Fields}
 use Rattle.registers.specs.declared.Registers.{Registers}
-use Rattle.registers.specs.declared.Answer.{Answer}
 use Rattle.registers.specs.declared.Write.{Write}
 
 -- the fields of 16 bits of information
@@ -35,11 +33,6 @@ registers_sound r = all_to 7 (storable r)
 -- the registers after a write of the information v to the ID: one of them holds what it stores
 abbrev pub stored_to : Registers → ℕ → ℕ → Registers
 stored_to r id v = record { value = set r.value (id - 0x30) (stored id v) }
-
--- an answer in 01's numbers
-abbrev pub answer_outcome : Answer → Outcome ℕ
-answer_outcome (Answer.Value v) = given v
-answer_outcome (Answer.Refused n) = refused (number_of n)
 
 -- a read: the stored value; refused by 3, then 1
 unfoldable pub register_read : Registers → ℕ → Outcome ℕ

@@ -25,25 +25,18 @@ pub struct Fields {
     pub ncad: u16,
 }
 
-// The value of a register, as it is read or as a command stored it; or the refusal.
-#[derive(Clone, Copy)]
-pub enum Answer {
-    Value(u16),
-    Refused(Refusal),
-}
-
 // What a write leaves: its answer, and the registers afterwards.
 #[derive(Clone, Copy)]
 pub struct Write {
-    pub answer: Answer,
+    pub answer: Result<u16, Refusal>,
     pub registers: Registers,
 }
 
-impl Fields {
+impl From<u16> for Fields {
+    ghost from_gives = { λ information fields. fields ≡ fields_of information };
+
     // Source 4:0, enable 5, bins 7:6, NAVG 11:8, NCAD 15:12.
-    pub fn of(information: u16) -> Self
-        ensures { result ≡ fields_of information }
-    {
+    fn from(information: u16) -> Self {
         Fields {
             source: information % 32,
             enable: information / 32 % 2,
@@ -66,7 +59,7 @@ fn low_stored(default: u16, information: u16) -> u16
     requires { default ≤ 0x16 }
     ensures { result ≡ low_stored default information }
 {
-    let fields = Fields::of(information);
+    let fields = Fields::from(information);
     fields.enable * 32 + limited_field(fields.source, Registers::SOURCE_LIMIT, default)
 }
 
@@ -74,7 +67,7 @@ fn low_stored(default: u16, information: u16) -> u16
 fn high_stored(information: u16) -> u16
     ensures { result ≡ high_stored information }
 {
-    let fields = Fields::of(information);
+    let fields = Fields::from(information);
     let ncad = limited_field(fields.ncad, Registers::NCAD_LIMIT, Registers::NCAD_DEFAULT);
     let navg = limited_field(fields.navg, Registers::NAVG_LIMIT, Registers::NAVG_DEFAULT);
     let bins = limited_field(fields.bins, Registers::BINS_LIMIT, Registers::BINS_DEFAULT);
@@ -96,20 +89,14 @@ pub fn stored_at(n: usize, information: u16) -> u16
 fn high_within(ncad: u16, navg: u16, bins: u16) -> bool
     ensures { result ≡ (leb ncad 0xA && (leb navg 0xA && leb bins 2)) }
 {
-    if Registers::NCAD_LIMIT < ncad {
-        return false;
-    }
-    if Registers::NAVG_LIMIT < navg {
-        return false;
-    }
-    bins <= Registers::BINS_LIMIT
+    ncad <= Registers::NCAD_LIMIT && navg <= Registers::NAVG_LIMIT && bins <= Registers::BINS_LIMIT
 }
 
 // Whether a write can store the value in register n: each field is within its limit, and outside 0x30 bits 15:6 are 0.
 fn can_store(n: usize, value: u16) -> bool
     ensures { result ≡ can_store n value }
 {
-    let fields = Fields::of(value);
+    let fields = Fields::from(value);
     if Registers::SOURCE_LIMIT < fields.source {
         return false;
     }
@@ -179,13 +166,13 @@ impl Registers {
     {
         if !self.is_sound() {
             return Write {
-                answer: Answer::Refused(Refusal::UnsoundState),
+                answer: Err(Refusal::UnsoundState),
                 registers: self,
             };
         }
         if !is_id(id) {
             return Write {
-                answer: Answer::Refused(Refusal::UnknownCommand),
+                answer: Err(Refusal::UnknownCommand),
                 registers: self,
             };
         }
@@ -194,7 +181,7 @@ impl Registers {
         let mut next = self;
         next.value[n] = stored;
         Write {
-            answer: Answer::Value(stored),
+            answer: Ok(stored),
             registers: next,
         }
     }

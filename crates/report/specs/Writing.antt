@@ -3,10 +3,8 @@
 use Rattle.std.specs.Prelude.{ℕ, ◌*◌, ◌%◌, ◌^◌, cond, not, ◌&&◌, List, length, leb, eqb}
 use Rattle.lists.specs.Tables.{overwrite}
 use Rattle.settings.specs.Settings.{spec_words}
-use Rattle.refusal.specs.Number.{number_of}
 use Rattle.refusal.specs.Outcome.{Outcome, given, refused}
 use Rattle.registers.specs.declared.Registers.{Registers}
-use Rattle.report.specs.declared.WordCount.{WordCount}
 use Rattle.model.specs.Totals.{slot}
 use Rattle.model.specs.Report.{divisor, report_bytes}
 
@@ -21,10 +19,6 @@ pub record ReportLeft : Type 0 where
 
 abbrev pub report_left : Outcome ℕ → List ℕ → ReportLeft
 report_left words out = record { words = words; out = out }
-
-abbrev pub word_count_outcome : WordCount → Outcome ℕ
-word_count_outcome (WordCount.Words n) = given n
-word_count_outcome (WordCount.Refused n) = refused (number_of n)
 
 -- the words of 784 totals over the start of the output; 2 where a list is not of its length
 unfoldable pub report_written : Registers → List ℕ → List ℕ → ReportLeft

@@ -2,10 +2,9 @@
 // the input and the expected output, the latter from a model of its own.
 #![tactic(auto)]
 
-ghost use Rattle.std.specs.Prelude.{◌≡◌, ◌+◌, ◌<◌, ◌≤◌, length, IfOk};
+ghost use Rattle.std.specs.Prelude.{◌≡◌, length};
 
-use input::{Input, read_input};
-use refusal::Written;
+use input::read_input;
 use std::io;
 use std::io::{BufWriter, Read, Write};
 
@@ -24,47 +23,29 @@ fn print<W: Write>(writer: &mut W, text: &[u8]) -> io::Result<()> {
         return writer.write_all(text);
     }
     writeln!(writer, "{n}")?;
-    let from = n - 16;
-    writer.write_all(&text[from..])
+    writer.write_all(&text[n - 16..])
 }
 
 // Prints the listing of a log, made in out.
 fn show<W: Write>(writer: &mut W, log: &[u8], out: &mut [u8]) -> io::Result<()> {
     match listing::listing(log, out) {
-        Written::Count(n) => print(writer, &out[..n])?,
-        Written::Refused(_) => {
-            writer.write_all(b"refused\n")?;
-        }
+        Ok(n) => print(writer, &out[..n]),
+        Err(_) => writer.write_all(b"refused\n"),
     }
-    Ok(())
-}
-
-fn case_length(high: u8, low: u8) -> usize
-    ensures { result ≤ 65535 }
-{
-    256 * (high as usize) + low as usize
-}
-
-// Shows the case at index at, where it lies within input; answers the index after it.
-fn show_case<W: Write>(writer: &mut W, input: &[u8], at: usize, out: &mut [u8]) -> io::Result<usize>
-    requires { at + 2 ≤ length input.now }
-    ensures { IfOk result (λ next. (at < next) × (next ≤ length input.now + 65535)) }
-{
-    let from = at + 2;
-    let next = from + case_length(input[at], input[at + 1]);
-    if next <= input.len() {
-        show(writer, &input[from..next], out)?;
-    }
-    Ok(next)
 }
 
 // Shows each case of input: two bytes of length, high byte first, and the log.
 fn show_cases<W: Write>(writer: &mut W, input: &[u8], out: &mut [u8]) -> io::Result<()> {
-    let mut at: usize = 0;
-    while at + 2 <= input.len() {
-        at = show_case(writer, input, at, out)?;
+    let mut rest = input;
+    while let Some((length, behind)) = rest.split_first_chunk() {
+        let length = u16::from_be_bytes(*length) as usize;
+        let Some((case, after)) = behind.split_at_checked(length) else {
+            break;
+        };
+        show(writer, case, out)?;
+        rest = after;
     }
-    expect(writer, at == input.len())
+    expect(writer, rest.is_empty())
 }
 
 // Shows the cases of standard input, which is read into input.
@@ -74,7 +55,7 @@ fn show_input<R: Read, W: Write>(
     input: &mut [u8],
     out: &mut [u8],
 ) -> io::Result<()> {
-    let Input::Bytes(n) = read_input(reader, input) else {
+    let Ok(n) = read_input(reader, input) else {
         return expect(writer, false);
     };
     show_cases(writer, &input[..n], out)?;

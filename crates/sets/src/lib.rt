@@ -8,17 +8,17 @@ ghost use Rattle.refusal.specs.Outcome.{given, filled};
 ghost use Rattle.words.specs.Words.{word_bytes};
 ghost use Rattle.sets.specs.Sets.{packed_bytes, pack_sized, pack_outcome, every_apid, samples_of, unpack_sized, unpack_outcome};
 
-use refusal::{Refusal, Written};
-use words::SetWords;
+use refusal::Refusal;
 
 // Writes one word at a place.
 fn put_word(out: &mut [u8], at: usize, apid: u8, bits: u16)
     requires { at + 3 ≤ length out.old }
     ensures { out.new ≡ sets out.old at (word_bytes apid bits) }
 {
+    let [high, low] = bits.to_be_bytes();
     out[at] = apid;
-    out[at + 1] = (bits / 256) as u8;
-    out[at + 2] = (bits % 256) as u8;
+    out[at + 1] = high;
+    out[at + 2] = low;
 }
 
 // Writes the words of the samples.
@@ -26,49 +26,41 @@ fn put_words(apid: u8, samples: &[i16], out: &mut [u8])
     requires { 3 * length samples.now ≤ length out.old }
     ensures { out.new ≡ overwrite (packed_bytes apid samples.now) out.old }
 {
-    let mut i = 0;
-    while i < samples.len() {
-        put_word(out, 3 * i, apid, words::bits_of(samples[i]));
-        i += 1;
+    for (i, sample) in samples.iter().enumerate() {
+        put_word(out, 3 * i, apid, words::bits_of(*sample));
     }
 }
 
 // Packs a set of as many words into bytes. Refused by 2.
-fn pack_set(apid: u8, words: usize, samples: &[i16], out: &mut [u8]) -> Written
+fn pack_set(apid: u8, words: usize, samples: &[i16], out: &mut [u8]) -> Result<usize, Refusal>
     requires { words ≤ 7 }
     ensures { filled result out.new ≡ pack_sized apid samples.now out.old (given words) }
 {
     if samples.len() != words {
-        return Written::Refused(Refusal::WrongLength);
+        return Err(Refusal::WrongLength);
     }
     if out.len() < 3 * words {
-        return Written::Refused(Refusal::WrongLength);
+        return Err(Refusal::WrongLength);
     }
     put_words(apid, samples, out);
-    Written::Count(3 * words)
+    Ok(3 * words)
 }
 
 // Packs one set of samples into words; answers the bytes written. Refused by 4, then 2.
-pub fn pack(apid: u8, samples: &[i16], out: &mut [u8]) -> Written
+pub fn pack(apid: u8, samples: &[i16], out: &mut [u8]) -> Result<usize, Refusal>
     ensures { filled result out.new ≡ pack_outcome apid samples.now out.old }
 {
-    match words::set_words(apid) {
-        SetWords::Count(words) => pack_set(apid, words, samples, out),
-        SetWords::Refused(refusal) => Written::Refused(refusal),
-    }
+    pack_set(apid, words::set_words(apid)?, samples, out)
 }
 
 // Whether each whole word of the bytes has the APID.
 pub fn every_apid(apid: u8, bytes: &[u8]) -> bool
     ensures { result ≡ every_apid apid (length bytes.now / 3) bytes.now }
 {
-    let n = bytes.len() / 3;
-    let mut i = 0;
-    while i < n {
+    for i in 0..bytes.len() / 3 {
         if bytes[3 * i] != apid {
             return false;
         }
-        i += 1;
     }
     true
 }
@@ -78,37 +70,32 @@ fn put_samples(n: usize, bytes: &[u8], samples: &mut [i16])
     requires { (3 * n ≤ length bytes.now) × (n ≤ length samples.old) }
     ensures { samples.new ≡ overwrite (samples_of n bytes.now) samples.old }
 {
-    let mut i = 0;
-    while i < n {
+    for i in 0..n {
         samples[i] = words::sample_of(words::pair(bytes[3 * i + 1], bytes[3 * i + 2]));
-        i += 1;
     }
 }
 
 // Unpacks the bytes of a set of as many words. Refused by 2, then 5.
-fn unpack_set(apid: u8, words: usize, bytes: &[u8], samples: &mut [i16]) -> Written
+fn unpack_set(apid: u8, words: usize, bytes: &[u8], samples: &mut [i16]) -> Result<usize, Refusal>
     requires { words ≤ 7 }
     ensures { filled result samples.new ≡ unpack_sized apid bytes.now samples.old (given words) }
 {
     if bytes.len() != 3 * words {
-        return Written::Refused(Refusal::WrongLength);
+        return Err(Refusal::WrongLength);
     }
     if samples.len() < words {
-        return Written::Refused(Refusal::WrongLength);
+        return Err(Refusal::WrongLength);
     }
     if !every_apid(apid, bytes) {
-        return Written::Refused(Refusal::IncompleteSet);
+        return Err(Refusal::IncompleteSet);
     }
     put_samples(words, bytes, samples);
-    Written::Count(words)
+    Ok(words)
 }
 
 // Unpacks the words of one set into samples; answers the samples written. Refused by 4, then 2, then 5.
-pub fn unpack(apid: u8, bytes: &[u8], samples: &mut [i16]) -> Written
+pub fn unpack(apid: u8, bytes: &[u8], samples: &mut [i16]) -> Result<usize, Refusal>
     ensures { filled result samples.new ≡ unpack_outcome apid bytes.now samples.old }
 {
-    match words::set_words(apid) {
-        SetWords::Count(words) => unpack_set(apid, words, bytes, samples),
-        SetWords::Refused(refusal) => Written::Refused(refusal),
-    }
+    unpack_set(apid, words::set_words(apid)?, bytes, samples)
 }

@@ -58,3 +58,6 @@ module _ (r : Registers) where
 
   pub before-off : (n : ℕ) → enabled_of r n ≡ false → enabled_before r (n + 1) ≡ enabled_before r n
   before-off n e = sum_to-more _ n ∙ rw e (omega arith)
+
+-- the bound of the setting, for a function that names it
+pub ruleset setting_bound = (setting-le)

@@ -15,8 +15,9 @@ use Rattle.refusal.specs.Outcome.{Outcome, given, refused, Filled}
 use Rattle.fields.specs.Samples.{sample_bytes, get_outcome}
 use Rattle.fields.proofs.Samples.{bytes-length, samples-drop}
 use Rattle.snapshot.specs.declared.Header.{Header}
+use Rattle.snapshot.specs.declared.Found.{Found}
 use Rattle.snapshot.specs.Packet.{header_bytes, packet_bytes, sample_count}
-use Rattle.snapshot.specs.Calls.{header_found, Found, ReadLeft, packet_read}
+use Rattle.snapshot.specs.Calls.{header_found, ReadLeft, packet_read}
 use Rattle.snapshot.proofs.Packets.{header-length, accepted}
 
 -- ---- reading

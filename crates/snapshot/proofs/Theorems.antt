@@ -19,8 +19,9 @@ use Rattle.fields.specs.Samples.{sample_bytes, samples_at}
 use Rattle.fields.proofs.Samples.{samples-length, samples-16}
 use Rattle.fields.proofs.Theorems.{samples-return, sample-bytes-return}
 use Rattle.snapshot.specs.declared.Header.{Header}
+use Rattle.snapshot.specs.declared.Found.{Found}
 use Rattle.snapshot.specs.Packet.{header_bytes, packet_bytes, sample_count, packet_length, in_range}
-use Rattle.snapshot.specs.Calls.{header_found, Found, ReadLeft, samples_read, packet_read, packet_written}
+use Rattle.snapshot.specs.Calls.{header_found, ReadLeft, samples_read, packet_read, packet_written}
 use Rattle.snapshot.specs.Claims.{ComponentsAreOnes, HeaderFits, Makes, read_as, ReadExactly, RoundTrip, ConverseRoundTrip, RefusedReadUnchanged, RefusedWriteUnchanged, ShortOutputRefused}
 use Rattle.snapshot.proofs.Packets.{components-ones, header-length, packet-length, header-returns, sid-returns, auxiliary-returns, header-fits, header-bytes-return, Accepted, accepted, accepts}
 

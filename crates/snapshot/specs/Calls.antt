@@ -1,12 +1,10 @@
 -- 02, ticket 1: reading and writing one packet, with their refusals in order. Assumes nothing.
 use Rattle.std.specs.Prelude.{ℕ, cond, not, List, ltb, eqb, ℤ, length}
 use Rattle.lists.specs.Tables.{overwrite}
-use Rattle.refusal.specs.Number.{number_of}
 use Rattle.refusal.specs.Outcome.{Outcome, given, refused, Filled, unfilled}
 use Rattle.fields.specs.Samples.{samples_at}
 use Rattle.snapshot.specs.declared.Header.{Header}
-use Rattle.snapshot.specs.declared.HeaderRead.{HeaderRead}
-use Rattle.snapshot.specs.declared.PacketRead.{PacketRead}
+use Rattle.snapshot.specs.declared.Found.{Found}
 use Rattle.snapshot.specs.Packet.{packet_bytes, header_in, sample_count, packet_length, is_snapshot, in_range}
 
 -- ---- reading
@@ -20,11 +18,6 @@ header_found packet =
     (cond (not (in_range (header_in packet))) (refused 15)
     (cond (not (eqb (length packet) (packet_length (header_in packet).mask))) (refused 16)
     (given (header_in packet)))))
-
--- what a packet gives: its header, and how many samples were written
-pub record Found : Type 0 where
-  pub header : Header
-  pub count : ℕ
 
 -- what reading a packet leaves: its answer, and the output afterwards
 pub record ReadLeft : Type 0 where
@@ -55,13 +48,3 @@ packet_written h samples out =
     (cond (not (eqb (length samples) (sample_count h.mask))) (unfilled 16 out)
     (cond (ltb (length out) (packet_length h.mask)) (unfilled 2 out)
     (record { answer = given (packet_length h.mask); buffer = overwrite (packet_bytes h samples) out })))
-
--- ---- the answers of the code in these terms
-
-abbrev pub header_outcome : HeaderRead → Outcome Header
-header_outcome (HeaderRead.Header h) = given h
-header_outcome (HeaderRead.Refused r) = refused (number_of r)
-
-abbrev pub packet_outcome : PacketRead → Outcome Found
-packet_outcome (PacketRead.Packet h n) = given (record { header = h; count = n })
-packet_outcome (PacketRead.Refused r) = refused (number_of r)

@@ -7,8 +7,9 @@ use Rattle.words.specs.Sample.{Are16}
 use Rattle.words.specs.Words.{AreBytes}
 use Rattle.fields.specs.Fields.{size_of, FollowFrom, FitFields}
 use Rattle.snapshot.specs.declared.Header.{Header}
+use Rattle.snapshot.specs.declared.Found.{Found}
 use Rattle.snapshot.specs.Packet.{fields, field_numbers, packet_bytes, components, sample_count}
-use Rattle.snapshot.specs.Calls.{header_found, Found, ReadLeft, packet_read, packet_written}
+use Rattle.snapshot.specs.Calls.{header_found, ReadLeft, packet_read, packet_written}
 
 -- ---- the fields and the mask
 

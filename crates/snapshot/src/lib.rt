@@ -3,12 +3,12 @@
 
 ghost use Rattle.std.specs.Prelude.{◌≡◌, ◌+◌, ◌≤◌, length};
 ghost use Rattle.lists.specs.Tables.{overwrite};
-ghost use Rattle.refusal.specs.Outcome.{filled};
+ghost use Rattle.refusal.specs.Outcome.{filled, answer_outcome};
 ghost use Rattle.fields.specs.Fields.{number_at};
 ghost use Rattle.snapshot.specs.Packet.{header_bytes, header_in, sample_count, is_snapshot, in_range};
-ghost use Rattle.snapshot.specs.Calls.{header_outcome, header_found, ReadLeft, packet_outcome, packet_read, packet_written};
+ghost use Rattle.snapshot.specs.Calls.{header_found, ReadLeft, packet_read, packet_written};
 
-use refusal::{Refusal, Written};
+use refusal::Refusal;
 
 // The bytes before the samples.
 pub const HEADER: usize = 20;
@@ -41,18 +41,11 @@ pub struct Header {
     pub number: u16,
 }
 
-// The header of a packet, or the refusal.
+// What a packet gives: its header, and how many samples were written.
 #[derive(Clone, Copy)]
-pub enum HeaderRead {
-    Header(Header),
-    Refused(Refusal),
-}
-
-// The header of a packet and the number of samples written, or the refusal.
-#[derive(Clone, Copy)]
-pub enum PacketRead {
-    Packet(Header, usize),
-    Refused(Refusal),
+pub struct Found {
+    pub header: Header,
+    pub count: usize,
 }
 
 // The samples of a packet by its mask: 128 for each component.
@@ -82,7 +75,7 @@ fn pair_at(packet: &[u8], at: usize) -> u16
     requires { at + 2 ≤ length packet.now }
     ensures { result ≡ number_at 2 packet.now at }
 {
-    words::pair(packet[at], packet[at + 1])
+    u16::from_be_bytes([packet[at], packet[at + 1]])
 }
 
 // The number of four.
@@ -90,7 +83,7 @@ fn quad_at(packet: &[u8], at: usize) -> u32
     requires { at + 4 ≤ length packet.now }
     ensures { result ≡ number_at 4 packet.now at }
 {
-    pair_at(packet, at) as u32 * 65536 + pair_at(packet, at + 2) as u32
+    u32::from_be_bytes([packet[at], packet[at + 1], packet[at + 2], packet[at + 3]])
 }
 
 // The numbers in the fields of a packet.
@@ -113,63 +106,65 @@ fn header_in(packet: &[u8]) -> Header
 }
 
 // The header of a packet. Refused by 16, then 14, then 15, then 16.
-pub fn read_header(packet: &[u8]) -> HeaderRead
-    ensures { header_outcome result ≡ header_found packet.now }
+pub fn read_header(packet: &[u8]) -> Result<Header, Refusal>
+    ensures { answer_outcome result ≡ header_found packet.now }
 {
     if packet.len() < HEADER {
-        return HeaderRead::Refused(Refusal::WrongPacketLength);
+        return Err(Refusal::WrongPacketLength);
     }
     if !is_snapshot(packet) {
-        return HeaderRead::Refused(Refusal::UnknownPacket);
+        return Err(Refusal::UnknownPacket);
     }
     let header = header_in(packet);
     if !is_in_range(header) {
-        return HeaderRead::Refused(Refusal::PacketOutOfRange);
+        return Err(Refusal::PacketOutOfRange);
     }
     if packet.len() != HEADER + 2 * sample_count(header.mask) {
-        return HeaderRead::Refused(Refusal::WrongPacketLength);
+        return Err(Refusal::WrongPacketLength);
     }
-    HeaderRead::Header(header)
+    Ok(header)
 }
 
 // Reads a packet; answers its header and the number of samples written. Refused by 16, then 14, then 15, then 16, then 2.
-pub fn read_packet(packet: &[u8], samples: &mut [i16]) -> PacketRead
-    ensures { record { answer = packet_outcome result; samples = samples.new } ≡ packet_read packet.now samples.old }
+pub fn read_packet(packet: &[u8], samples: &mut [i16]) -> Result<Found, Refusal>
+    ensures { record { answer = answer_outcome result; samples = samples.new } ≡ packet_read packet.now samples.old }
 {
-    match read_header(packet) {
-        HeaderRead::Header(header) => match fields::get_samples(&packet[HEADER..], samples) {
-            Written::Count(n) => PacketRead::Packet(header, n),
-            Written::Refused(refusal) => PacketRead::Refused(refusal),
-        },
-        HeaderRead::Refused(refusal) => PacketRead::Refused(refusal),
-    }
+    let header = read_header(packet)?;
+    let count = fields::get_samples(&packet[HEADER..], samples)?;
+    Ok(Found { header, count })
 }
 
 // The bytes of a header.
 fn header_bytes(header: Header) -> [u8; 20]
     ensures { result ≡ header_bytes header }
 {
+    let [coarse_high, coarse_low] = header.coarse.to_be_bytes();
+    let [fine_high, fine_low] = header.fine.to_be_bytes();
+    let [sequence_high, sequence_low] = header.sequence.to_be_bytes();
+    let [byte8, byte9, byte10, byte11] = header.switches8.to_be_bytes();
+    let [total_high, total_low] = header.total.to_be_bytes();
+    let [number_high, number_low] = header.number.to_be_bytes();
     [
         SID,
-        (header.coarse / 256) as u8,
-        (header.coarse % 256) as u8,
-        (header.fine / 256) as u8,
-        (header.fine % 256) as u8,
-        (header.sequence / 256) as u8,
-        (header.sequence % 256) as u8,
+        coarse_high,
+        coarse_low,
+        fine_high,
+        fine_low,
+        sequence_high,
+        sequence_low,
         AUXILIARY_LENGTH,
-        (header.switches8 / 16777216) as u8,
-        (header.switches8 / 65536 % 256) as u8,
-        (header.switches8 / 256 % 256) as u8,
-        (header.switches8 % 256) as u8,
+        byte8,
+        byte9,
+        byte10,
+        byte11,
         header.switches12,
         header.mask,
-        (header.total / 256) as u8,
-        (header.total % 256) as u8,
+        total_high,
+        total_low,
         header.artefacts,
         header.snapshot,
-        (header.number / 256) as u8,
-        (header.number % 256) as u8,
+        number_high,
+        number_low,
     ]
 }
 
@@ -178,28 +173,25 @@ fn put_header(header: Header, packet: &mut [u8])
     requires { 20 ≤ length packet.old }
     ensures { packet.new ≡ overwrite (header_bytes header) packet.old }
 {
-    let bytes = header_bytes(header);
-    for i in 0..HEADER {
-        packet[i] = bytes[i];
-    }
+    packet[..HEADER].copy_from_slice(&header_bytes(header));
 }
 
 // Writes a packet; answers the number of bytes written. Refused by 15, then 16, then 2.
-pub fn write_packet(header: Header, samples: &[i16], packet: &mut [u8]) -> Written
+pub fn write_packet(header: Header, samples: &[i16], packet: &mut [u8]) -> Result<usize, Refusal>
     ensures { filled result packet.new ≡ packet_written header samples.now packet.old }
 {
-    if !is_in_range(header) {
-        return Written::Refused(Refusal::PacketOutOfRange);
-    }
     let count = sample_count(header.mask);
-    if samples.len() != count {
-        return Written::Refused(Refusal::WrongPacketLength);
-    }
     let length = HEADER + 2 * count;
-    if packet.len() < length {
-        return Written::Refused(Refusal::WrongLength);
+    if !is_in_range(header) {
+        Err(Refusal::PacketOutOfRange)
+    } else if samples.len() != count {
+        Err(Refusal::WrongPacketLength)
+    } else if packet.len() < length {
+        Err(Refusal::WrongLength)
+    } else {
+        put_header(header, packet);
+        // never refused: there is room
+        let _ = fields::put_samples(samples, &mut packet[HEADER..length]);
+        Ok(length)
     }
-    put_header(header, packet);
-    fields::put_samples(samples, &mut packet[HEADER..length]);
-    Written::Count(length)
 }

@@ -5,9 +5,9 @@
 
 ghost use Rattle.std.specs.Prelude.{◌+◌, ◌≤◌, length, IfOk};
 
-use input::{Input, read_input};
-use refusal::{Refusal, Written};
-use snapshot::{Header, HeaderRead, PacketRead};
+use input::read_input;
+use refusal::Refusal;
+use snapshot::{Found, Header};
 use std::io;
 use std::io::{BufWriter, Read, Write};
 
@@ -33,43 +33,18 @@ fn expect<W: Write>(writer: &mut W, ok: bool) -> io::Result<()> {
     Ok(())
 }
 
-fn show_byte<W: Write>(writer: &mut W, byte: u8) -> io::Result<()> {
-    write!(writer, "{byte:02x}")
-}
-
-// Prints the first n bytes, two hexadecimal digits each, and a line end.
-fn show_bytes<W: Write>(writer: &mut W, bytes: &[u8; BYTES], n: usize) -> io::Result<()>
-    requires { n ≤ 2100 }
-{
-    for i in 0..n {
-        show_byte(writer, bytes[i])?;
+// Prints bytes, two hexadecimal digits each, and a line end.
+fn show_bytes<W: Write>(writer: &mut W, bytes: &[u8]) -> io::Result<()> {
+    for byte in bytes {
+        write!(writer, "{byte:02x}")?;
     }
     writer.write_all(b"\n")
 }
 
-// A sample without its sign.
-fn magnitude(sample: i16) -> u16 {
-    if sample < 0 {
-        (!sample) as u16 + 1
-    } else {
-        sample as u16
-    }
-}
-
-fn show_sample<W: Write>(writer: &mut W, sample: i16) -> io::Result<()> {
-    writer.write_all(b" ")?;
-    if sample < 0 {
-        writer.write_all(b"-")?;
-    }
-    write!(writer, "{}", magnitude(sample))
-}
-
-// Prints the first n samples in decimal, and a line end.
-fn show_samples<W: Write>(writer: &mut W, samples: &[i16; SAMPLES], n: usize) -> io::Result<()>
-    requires { n ≤ 1040 }
-{
-    for i in 0..n {
-        show_sample(writer, samples[i])?;
+// Prints samples in decimal, and a line end.
+fn show_samples<W: Write>(writer: &mut W, samples: &[i16]) -> io::Result<()> {
+    for sample in samples {
+        write!(writer, " {sample}")?;
     }
     writer.write_all(b"\n")
 }
@@ -78,53 +53,46 @@ fn show_refusal<W: Write>(writer: &mut W, refusal: Refusal) -> io::Result<()> {
     write!(writer, " refused {}", refusal::number(refusal))
 }
 
-// Prints a number in so many hexadecimal digits.
-fn show_number<W: Write>(writer: &mut W, n: u64, digits: usize) -> io::Result<()> {
-    write!(writer, " {n:0digits$x}")
-}
-
 // Prints a header in the order of the packet.
 fn show_header<W: Write>(writer: &mut W, header: Header) -> io::Result<()> {
-    show_number(writer, header.coarse as u64, 4)?;
-    show_number(writer, header.fine as u64, 4)?;
-    show_number(writer, header.sequence as u64, 4)?;
-    show_number(writer, header.switches8 as u64, 8)?;
-    show_number(writer, header.switches12 as u64, 2)?;
-    show_number(writer, header.mask as u64, 2)?;
-    show_number(writer, header.total as u64, 4)?;
-    show_number(writer, header.artefacts as u64, 2)?;
-    show_number(writer, header.snapshot as u64, 2)?;
-    show_number(writer, header.number as u64, 4)
+    write!(writer, " {:04x}", header.coarse)?;
+    write!(writer, " {:04x}", header.fine)?;
+    write!(writer, " {:04x}", header.sequence)?;
+    write!(writer, " {:08x}", header.switches8)?;
+    write!(writer, " {:02x}", header.switches12)?;
+    write!(writer, " {:02x}", header.mask)?;
+    write!(writer, " {:04x}", header.total)?;
+    write!(writer, " {:02x}", header.artefacts)?;
+    write!(writer, " {:02x}", header.snapshot)?;
+    write!(writer, " {:04x}", header.number)
 }
 
-fn show_header_read<W: Write>(writer: &mut W, read: HeaderRead) -> io::Result<()> {
+fn show_header_read<W: Write>(writer: &mut W, read: Result<Header, Refusal>) -> io::Result<()> {
     writer.write_all(b"header")?;
     match read {
-        HeaderRead::Header(header) => show_header(writer, header)?,
-        HeaderRead::Refused(refusal) => show_refusal(writer, refusal)?,
+        Ok(header) => show_header(writer, header)?,
+        Err(refusal) => show_refusal(writer, refusal)?,
     }
     Ok(())
 }
 
-fn show_packet_read<W: Write>(writer: &mut W, read: PacketRead) -> io::Result<()> {
+fn show_packet_read<W: Write>(writer: &mut W, read: Result<Found, Refusal>) -> io::Result<()> {
     writer.write_all(b"; read")?;
     match read {
-        PacketRead::Packet(header, n) => {
-            show_header(writer, header)?;
-            write!(writer, " count {n}")?;
+        Ok(found) => {
+            show_header(writer, found.header)?;
+            write!(writer, " count {}", found.count)?;
         }
-        PacketRead::Refused(refusal) => show_refusal(writer, refusal)?,
+        Err(refusal) => show_refusal(writer, refusal)?,
     }
     writer.write_all(b";")
 }
 
-fn show_written<W: Write>(writer: &mut W, written: Written) -> io::Result<()> {
+fn show_written<W: Write>(writer: &mut W, written: Result<usize, Refusal>) -> io::Result<()> {
     writer.write_all(b"write")?;
     match written {
-        Written::Count(n) => {
-            write!(writer, " {n}")?;
-        }
-        Written::Refused(refusal) => show_refusal(writer, refusal)?,
+        Ok(n) => write!(writer, " {n}")?,
+        Err(refusal) => show_refusal(writer, refusal)?,
     }
     writer.write_all(b"; ")
 }
@@ -135,48 +103,43 @@ fn at_most<W: Write>(writer: &mut W, n: u16, most: usize) -> io::Result<usize>
 {
     let length = n as usize;
     expect(writer, length <= most)?;
-    Ok(if length <= most { length } else { most })
+    Ok(length.min(most))
 }
 
-// 16 bits of two bytes, high byte first.
-fn pair(a: u8, b: u8) -> u16 {
-    a as u16 * 256 + b as u16
-}
-
-// 32 bits of four bytes, high byte first.
-fn quad(a: u8, b: u8, c: u8, d: u8) -> u32 {
-    a as u32 * 16777216 + b as u32 * 65536 + c as u32 * 256 + d as u32
-}
-
-// The sample of two bytes of a case.
-fn sample(high: u8, low: u8) -> i16 {
-    let excess = pair(high, low);
-    if excess < 32768 {
-        !((32767 - excess) as i16)
-    } else {
-        (excess - 32768) as i16
-    }
-}
-
-// Fills the first n samples from bytes, two for each.
-fn get_samples(bytes: &[u8], samples: &mut [i16], n: usize)
-    requires { (n + n ≤ length bytes.now) × (n ≤ length samples.old) }
+// The number of 16 bits at a place.
+fn pair_at(bytes: &[u8], at: usize) -> u16
+    requires { at + 2 ≤ length bytes.now }
 {
-    let mut i: usize = 0;
-    while i < n {
-        samples[i] = sample(bytes[i + i], bytes[i + i + 1]);
-        i += 1;
+    u16::from_be_bytes([bytes[at], bytes[at + 1]])
+}
+
+// That of 32 bits.
+fn quad_at(bytes: &[u8], at: usize) -> u32
+    requires { at + 4 ≤ length bytes.now }
+{
+    u32::from_be_bytes([bytes[at], bytes[at + 1], bytes[at + 2], bytes[at + 3]])
+}
+
+// The sample that a case gives plus 32,768.
+fn sample_of(excess: u16) -> i16 {
+    (excess as i32 - 32768) as i16
+}
+
+// Fills samples from bytes, two for each.
+fn get_samples(bytes: &[u8], samples: &mut [i16]) {
+    for (sample, pair) in samples.iter_mut().zip(bytes.chunks_exact(2)) {
+        *sample = sample_of(pair_at(pair, 0));
     }
 }
 
 // The number of samples in the body of a write.
 fn sample_count<W: Write>(writer: &mut W, bytes: usize) -> io::Result<usize>
     requires { 18 ≤ bytes }
-    ensures { IfOk result (λ n. (n + n + 18 ≤ bytes) × (n ≤ 1040)) }
+    ensures { IfOk result (λ n. n ≤ 1040) }
 {
     let n = (bytes - HEADER) / 2;
     expect(writer, n <= SAMPLES)?;
-    Ok(if n <= SAMPLES { n } else { SAMPLES })
+    Ok(n.min(SAMPLES))
 }
 
 // The header in the body of a write.
@@ -184,16 +147,16 @@ fn header_of(body: &[u8]) -> Header
     requires { 18 ≤ length body.now }
 {
     Header {
-        coarse: pair(body[0], body[1]),
-        fine: pair(body[2], body[3]),
-        sequence: pair(body[4], body[5]),
-        switches8: quad(body[6], body[7], body[8], body[9]),
+        coarse: pair_at(body, 0),
+        fine: pair_at(body, 2),
+        sequence: pair_at(body, 4),
+        switches8: quad_at(body, 6),
         switches12: body[10],
         mask: body[11],
-        total: pair(body[12], body[13]),
+        total: pair_at(body, 12),
         artefacts: body[14],
         snapshot: body[15],
-        number: pair(body[16], body[17]),
+        number: pair_at(body, 16),
     }
 }
 
@@ -203,8 +166,8 @@ fn show_read<W: Write>(writer: &mut W, packet: &[u8], lent: usize, shown: usize)
 {
     let mut samples = [OLD_SAMPLE; SAMPLES];
     show_header_read(writer, snapshot::read_header(packet))?;
-    show_packet_read(writer, snapshot::read_packet(packet, &mut samples[0..lent]))?;
-    show_samples(writer, &samples, shown)
+    show_packet_read(writer, snapshot::read_packet(packet, &mut samples[..lent]))?;
+    show_samples(writer, &samples[..shown])
 }
 
 // Writes a packet with so many bytes lent, and shows so many.
@@ -220,9 +183,9 @@ fn show_write<W: Write>(
     let mut packet = [OLD_BYTE; BYTES];
     show_written(
         writer,
-        snapshot::write_packet(header, samples, &mut packet[0..lent]),
+        snapshot::write_packet(header, samples, &mut packet[..lent]),
     )?;
-    show_bytes(writer, &packet, shown)
+    show_bytes(writer, &packet[..shown])
 }
 
 // The same, of the body of a case.
@@ -231,8 +194,8 @@ fn show_write_of<W: Write>(writer: &mut W, body: &[u8], lent: usize, shown: usiz
 {
     let mut samples = [0i16; SAMPLES];
     let n = sample_count(writer, body.len())?;
-    get_samples(&body[HEADER..], &mut samples, n);
-    show_write(writer, header_of(body), &samples[0..n], lent, shown)
+    get_samples(&body[HEADER..], &mut samples[..n]);
+    show_write(writer, header_of(body), &samples[..n], lent, shown)
 }
 
 // Makes the calls of a case and shows what they leave.
@@ -258,19 +221,15 @@ fn show_case<W: Write>(
 
 // Shows each case of input.
 fn show_cases<W: Write>(writer: &mut W, input: &[u8]) -> io::Result<()> {
-    let mut at: usize = 0;
-    while at + CASE <= input.len() {
-        let from = at + CASE;
-        let next = from + pair(input[at + 1], input[at + 2]) as usize;
-        if input.len() < next {
+    let mut rest = input;
+    while let Some((case, behind)) = rest.split_first_chunk::<CASE>() {
+        let Some((body, next)) = behind.split_at_checked(pair_at(case, 1) as usize) else {
             return expect(writer, false);
-        }
-        let lent = pair(input[at + 3], input[at + 4]);
-        let shown = pair(input[at + 5], input[at + 6]);
-        show_case(writer, input[at], lent, shown, &input[from..next])?;
-        at = next;
+        };
+        show_case(writer, case[0], pair_at(case, 3), pair_at(case, 5), body)?;
+        rest = next;
     }
-    expect(writer, at == input.len())
+    expect(writer, rest.is_empty())
 }
 
 // Shows the cases of standard input, which is read into input.
@@ -280,7 +239,7 @@ fn show_input<R: Read, W: Write>(
     input: &mut [u8],
     more: &mut [u8],
 ) -> io::Result<()> {
-    let Input::Bytes(n) = read_input(reader, input) else {
+    let Ok(n) = read_input(reader, input) else {
         return expect(writer, false);
     };
     show_cases(writer, &input[..n])?;

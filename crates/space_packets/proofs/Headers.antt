@@ -9,6 +9,7 @@ use borrow.Author.Tests.{ltb-true, ltb-false, leb-true, eqb-true, lt-ltb, le-ltb
 use lib.Dec.{leb, ltb, eqb}
 use lib.IntN.{ℤ}
 use lib.ListN.{length, drop, length-drop}
+use Rattle.std.specs.Int.{w16, to_be_bytes}
 use Rattle.lists.proofs.Choices.{by_cases, both}
 use Rattle.refusal.specs.Outcome.{Outcome, given, refused, Filled}
 use Rattle.refusal.proofs.Outcomes.{refused-given, given-same}
@@ -17,13 +18,14 @@ use Rattle.words.proofs.Laws.{size-range}
 use Rattle.fields.specs.Fields.{number_at, number_bytes}
 use Rattle.fields.specs.BitFields.{joined, separated, FitWidths}
 use Rattle.fields.specs.Samples.{get_outcome}
-use Rattle.fields.proofs.Numbers.{length-number, number-returns, bytes-return, number_lt, pair-bytes}
+use Rattle.fields.proofs.Numbers.{length-number, number-returns, bytes-return, number_lt}
 use Rattle.fields.proofs.BitFields.{joined-lt, separated-return, joined-return, separated-fit}
 use Rattle.fields.proofs.Samples.{samples-drop}
 use Rattle.space_packets.specs.declared.Primary.{Primary}
 use Rattle.space_packets.specs.declared.PacketHeader.{PacketHeader}
 use Rattle.space_packets.specs.Packet.{widths, field_numbers, primary_of, primary_bytes, primary_in, stated, is_stated, is_whole}
-use Rattle.space_packets.specs.Calls.{header_taken, header_of_sets, header_found, Found, ImportLeft, sample_count, packet_imported}
+use Rattle.space_packets.specs.declared.Import.{Import}
+use Rattle.space_packets.specs.Calls.{header_taken, header_of_sets, header_found, ImportLeft, sample_count, packet_imported}
 use Rattle.space_packets.specs.Claims.{PrimaryReturns, PrimaryBytesReturn, SetSizesFit}
 
 -- ---- the six bytes
@@ -33,36 +35,32 @@ unfolding primary_bytes
 primary-length p = length-number 6 (joined widths (field_numbers p))
 
 -- 16 bits more are two bytes more
-two-more : (n x c : ℕ) → c < 65536 → number_bytes (suc (suc n)) (x * 65536 + c) ≡ number_bytes n x ++ (c / 256 ∷ []) ++ (c % 256 ∷ [])
+two-more : (n x c : ℕ) → c < 65536 → number_bytes (suc (suc n)) (x * 65536 + c) ≡ number_bytes n x ++ (c / 256 % 256 ∷ []) ++ (c % 256 ∷ [])
 two-more n x c h =
     let rest : (x * 65536 + c) / 256 / 256 ≡ x = omega arith in
-    let high : (x * 65536 + c) / 256 % 256 ≡ c / 256 = omega arith in
+    let high : (x * 65536 + c) / 256 % 256 ≡ c / 256 % 256 = omega arith in
     let low : (x * 65536 + c) % 256 ≡ c % 256 = omega arith in
     rw (rest, high, low)
 
 -- the bytes of three times 16 bits
-six-bytes : (a b c : ℕ) → a < 65536 → b < 65536 → c < 65536 →
-    number_bytes 6 ((a * 65536 + b) * 65536 + c) ≡ a / 256 ∷ a % 256 ∷ b / 256 ∷ b % 256 ∷ c / 256 ∷ c % 256 ∷ []
-six-bytes a b c h k l =
-    two-more 4 (a * 65536 + b) c l
-    ∙ ap (λ (f : List ℕ). f ++ (c / 256 ∷ []) ++ (c % 256 ∷ []))
-    (two-more 2 a b k ∙ ap (λ (f : List ℕ). f ++ (b / 256 ∷ []) ++ (b % 256 ∷ [])) (sym (pair-bytes a h)))
+six-bytes : (a b c : ℕ) → b < 65536 → c < 65536 →
+    number_bytes 6 ((a * 65536 + b) * 65536 + c) ≡ to_be_bytes w16 a ++ (to_be_bytes w16 b ++ to_be_bytes w16 c)
+six-bytes a b c k l =
+    two-more 4 (a * 65536 + b) c l ∙ ap (λ (f : List ℕ). f ++ (c / 256 % 256 ∷ []) ++ (c % 256 ∷ [])) (two-more 2 a b k)
 
--- as the code computes them
+-- the first and the next 16 bits, as the code computes them
+abbrev pub identification : Primary → ℕ
+identification p = p.version * 8192 + p.kind * 4096 + p.secondary * 2048 + p.apid
+
+abbrev pub sequence : Primary → ℕ
+sequence p = p.flags * 16384 + p.count
+
 pub primary-bytes : (p : Primary) → FitWidths widths (field_numbers p) →
-    primary_bytes p
-    ≡ (p.version * 32 + p.kind * 16 + p.secondary * 8 + p.apid / 256) ∷ p.apid % 256 ∷ (p.flags * 64 + p.count / 256) ∷ p.count % 256
-    ∷ p.length / 256 ∷ p.length % 256 ∷ []
+    primary_bytes p ≡ to_be_bytes w16 (identification p) ++ (to_be_bytes w16 (sequence p) ++ to_be_bytes w16 p.length)
 unfolding primary_bytes
 primary-bytes p f =
-    let a = p.version * 8192 + p.kind * 4096 + p.secondary * 2048 + p.apid in
-    let b = p.flags * 16384 + p.count in
-    let same : joined widths (field_numbers p) ≡ (a * 65536 + b) * 65536 + p.length = omega arith in
-    let high : a / 256 ≡ p.version * 32 + p.kind * 16 + p.secondary * 8 + p.apid / 256 = omega arith in
-    let low : a % 256 ≡ p.apid % 256 = omega arith in
-    let third : b / 256 ≡ p.flags * 64 + p.count / 256 = omega arith in
-    let fourth : b % 256 ≡ p.count % 256 = omega arith in
-    ap (number_bytes 6) same ∙ six-bytes a b p.length (omega (arith, f)) (omega (arith, f)) (omega (arith, f)) ∙ rw (high, low, third, fourth)
+    let same : joined widths (field_numbers p) ≡ (identification p * 65536 + sequence p) * 65536 + p.length = omega arith in
+    ap (number_bytes 6) same ∙ six-bytes (identification p) (sequence p) p.length (omega (arith, f)) (omega (arith, f))
 
 -- ---- the fields
 
@@ -205,7 +203,7 @@ accepts packet h a = rw (le-ltb (length packet) 6 a.long, a.set, a.stated, a.who
 -- ---- importing
 
 -- what getting the samples left, with the header
-abbrev with_header : PacketHeader → Outcome ℕ → Outcome Found
+abbrev with_header : PacketHeader → Outcome ℕ → Outcome Import
 with_header h (given n) = given (record { header = h; samples = n })
 with_header h (refused n) = refused n
 

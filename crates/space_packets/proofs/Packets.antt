@@ -1,9 +1,8 @@
 -- The bytes of packets: lengths, where a packet ends, and the most samples of a packet. Assumes nothing.
-use Prim.Native.Nat.{ℕ, zero, suc, ◌+◌, ◌-◌, ◌*◌, ◌/◌, ◌%◌, ◌≤◌, ◌<◌}
+use Prim.Native.Nat.{ℕ, min, zero, suc, ◌+◌, ◌-◌, ◌*◌, ◌/◌, ◌%◌, ◌≤◌, ◌<◌}
 use mathlib.Core.Path.{◌≡◌, refl, sym, ap, ap₂, ◌∙◌}
-use mathlib.Core.Bool.{cond}
 use mathlib.Core.List.{List, [], ◌∷◌, ◌++◌, append_assoc}
-use native.Mathlib.Nat.{zero-mul, mul_comm, mul_assoc, mul-le-mul_left, le-div_iff_mul-le, div-add-mod', mod-lt, mul-add-mod_self_right}
+use native.Mathlib.Nat.{min-eq_left, min-eq_right, zero-mul, mul_comm, mul_assoc, mul-le-mul_left, le-div_iff_mul-le, div-add-mod', mod-lt, mul-add-mod_self_right}
 use native.Mathlib.Numerals.{one-add}
 use native.Mathlib.Omega.{arith}
 use borrow.Author.Tests.{ltb-true, ltb-false}
@@ -139,12 +138,12 @@ pub record Place (n most p m room : ℕ) : Type 0 where
   pub fits : 6 * p + 2 * (p * most) + (6 + 2 * m) ≤ room
   pub samples : (l : List ℤ) → length l ≡ n → take m (drop (p * most) l) ≡ samples_of most l p
 
-pub place : (n most p m room : ℕ) → 0 < most → p < packet_count n most → packets_length n most ≤ room → m ≡ cond (ltb (n - p * most) most) (n - p * most) most →
+pub place : (n most p m room : ℕ) → 0 < most → p < packet_count n most → packets_length n most ≤ room → m ≡ min most (n - p * most) →
     Place n most p m room
 place n most p m room some h fits e =
     by_cases (ltb (n - p * most) most)
     (λ t. let less : n - p * most < most = ltb-true (n - p * most) most t in
-    let q : m ≡ n - p * most = rw t at e in
+    let q : m ≡ n - p * most = e ∙ min-eq_right (omega arith) in
     record {
       before = left;
       some = omega (arith, left);
@@ -154,7 +153,7 @@ place n most p m room some h fits e =
       samples = λ l k. take_all m (drop (p * most) l) (omega (arith, length-drop (p * most) l)) ∙ sym (take_all most (drop (p * most) l) (omega (arith, length-drop (p * most) l)));
     })
     (λ t. let more : most ≤ n - p * most = ltb-false (n - p * most) most t in
-    let q : m ≡ most = rw t at e in
+    let q : m ≡ most = e ∙ min-eq_left more in
     record {
       before = left;
       some = omega (arith, left);

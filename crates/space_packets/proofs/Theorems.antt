@@ -28,7 +28,9 @@ use Rattle.fields.proofs.Theorems.{samples-return, sample-bytes-return}
 use Rattle.space_packets.specs.declared.Primary.{Primary}
 use Rattle.space_packets.specs.declared.PacketHeader.{PacketHeader}
 use Rattle.space_packets.specs.Packet.{primary_bytes, primary_in, stated, packet_bytes, is_stated, is_whole, most_samples, packet_count, samples_of, count_of, packets_bytes, packets_length}
-use Rattle.space_packets.specs.Calls.{header_found, header_taken, header_of_sets, Found, ImportLeft, sample_count, samples_imported, packet_imported, Sent, ExportLeft, are_sets, sets_exported, exported_sets, packets_exported}
+use Rattle.space_packets.specs.declared.Import.{Import}
+use Rattle.space_packets.specs.declared.Export.{Export}
+use Rattle.space_packets.specs.Calls.{header_found, header_taken, header_of_sets, ImportLeft, sample_count, samples_imported, packet_imported, ExportLeft, are_sets, sets_exported, exported_sets, packets_exported}
 use Rattle.space_packets.specs.Claims.{Makes, imported_as, ImportExactly, FullButLast, EachWhole, AllSamples, CountsRise, Sends, ExportExactly, packets_in, Got, got_by, got_from, ExportImported, ImportExported, RefusedImportUnchanged, RefusedExportUnchanged, ImportRoom, ExportRoom, ExportApidRefused, FirstCountRefused, SamplesRefused, ShortBytesRefused, ShortPacketRefused, ImportApidRefused, FieldRefused, DataRefused, ShortSamplesRefused, header_of, HeaderAlone, RestStays, before, samples_got, AllImported, Taken, TakenExactly}
 use Rattle.space_packets.proofs.Headers.{primary-length, primary-fits, primary-bytes-return, set-sizes-fit, set-over, is-stated, Whole, is-whole, whole_is, whole-samples, Accepted, accepted, accepts}
 use Rattle.space_packets.proofs.Parts.{left-for, full-before, one-packet, at_most, samples-all, part_length, part-some, part-most}
@@ -85,7 +87,7 @@ each-whole words samples p some fits whole h =
 -- ---- exports that are accepted
 
 -- what an accepted export leaves
-sends-left : (apid first : ℕ) (samples : List ℤ) (out : List ℕ) (s : Sent) (a : Sends apid first samples out s) →
+sends-left : (apid first : ℕ) (samples : List ℤ) (out : List ℕ) (s : Export) (a : Sends apid first samples out s) →
     packets_exported apid first samples out ≡ record { answer = given s; out = overwrite (packets_bytes apid first (most_samples a.words) samples) out }
 unfolding packets_exported sets_exported
 sends-left apid first samples out s a =
@@ -98,7 +100,7 @@ sends-left apid first samples out s a =
     rw (a.sets, count, some, whole, room)
     (ap₂ (λ (b m : ℕ). record { answer = given (record { bytes = b; next = m }); out = overwrite (packets_bytes apid first most samples) out }) (sym a.bytes) (sym a.next))
 
-export-accepted : (apid first : ℕ) (samples : List ℤ) (out : List ℕ) (s : Sent) → (packets_exported apid first samples out).answer ≡ given s → Sends apid first samples out s
+export-accepted : (apid first : ℕ) (samples : List ℤ) (out : List ℕ) (s : Export) → (packets_exported apid first samples out).answer ≡ given s → Sends apid first samples out s
 unfolding packets_exported sets_exported
 export-accepted apid first samples out s e = by-sets (set_size apid) refl e
   where
@@ -117,8 +119,8 @@ export-accepted apid first samples out s e = by-sets (set_size apid) refl e
           some = ltb-true 0 (length samples) are.0;
           whole = eqb-true (length samples % words) 0 are.1;
           room = ltb-false (length out) (packets_length (length samples) (most_samples words)) v;
-          bytes = sym (ap (λ (x : Sent). x.bytes) same);
-          next = sym (ap (λ (x : Sent). x.next) same);
+          bytes = sym (ap (λ (x : Export). x.bytes) same);
+          next = sym (ap (λ (x : Export). x.next) same);
         }))
         (λ u. absurd (refused-given 23 s (rw (t, u) at e))))
 
@@ -234,12 +236,12 @@ module _ (packet : List ℕ) (h : PacketHeader) (are : AreBytes packet) (a : Acc
       (sym (sample-bytes-return (sample_count packet) packet 6 are found-twice))
 
 -- what an accepted import has found and leaves
-record ImportAccepted (packet : List ℕ) (out : List ℤ) (found : Found) : Type 0 where
+record ImportAccepted (packet : List ℕ) (out : List ℤ) (found : Import) : Type 0 where
   header : header_found packet ≡ given found.header
   count : found.samples ≡ sample_count packet
   samples : (packet_imported packet out).samples ≡ overwrite (samples_at (sample_count packet) packet 6) out
 
-import-accepted : (packet : List ℕ) (out : List ℤ) (found : Found) → (packet_imported packet out).answer ≡ given found → ImportAccepted packet out found
+import-accepted : (packet : List ℕ) (out : List ℤ) (found : Import) → (packet_imported packet out).answer ≡ given found → ImportAccepted packet out found
 unfolding packet_imported
 import-accepted packet out found e = by (header_found packet) refl e
   where
@@ -249,8 +251,8 @@ import-accepted packet out found e = by (header_found packet) refl e
         by_cases (ltb (length out) (sample_count packet)) (λ q. absurd (refused-given 2 found (rw q at t)))
         (λ q. let same : record { header = h; samples = sample_count packet } ≡ found = given-same _ found (rw q at t) in
         record {
-          header = s ∙ ap (λ (f : Found). given f.header) same;
-          count = sym (ap (λ (f : Found). f.samples) same);
+          header = s ∙ ap (λ (f : Import). given f.header) same;
+          count = sym (ap (λ (f : Import). f.samples) same);
           samples = rw (s, q);
         })
 
@@ -288,7 +290,7 @@ made_got apid count samples back m room =
     ∙ ap (λ (l : List ℤ). given (record { apid = apid; count = count; samples = l })) (take_at samples _ (length samples) refl)
 
 -- each packet of an accepted export
-sent-makes : (apid first : ℕ) (samples : List ℤ) (out : List ℕ) (s : Sent) (a : Sends apid first samples out s) → Are16 samples →
+sent-makes : (apid first : ℕ) (samples : List ℤ) (out : List ℕ) (s : Export) (a : Sends apid first samples out s) → Are16 samples →
     (p : ℕ) → p < packet_count (length samples) (most_samples a.words) → Makes apid (count_of first p) (samples_of (most_samples a.words) samples p)
 sent-makes apid first samples out s a are p h =
     let fit = set-sizes-fit apid a.words a.sets in

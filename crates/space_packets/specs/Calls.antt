@@ -1,15 +1,13 @@
 -- 02, ticket 7: export and import, with their refusals in order. Assumes nothing.
 use Rattle.std.specs.Prelude.{ℕ, ◌-◌, ◌/◌, ◌%◌, Bool, cond, not, ◌&&◌, List, ltb, eqb, ℤ, length}
 use Rattle.lists.specs.Tables.{overwrite}
-use Rattle.refusal.specs.Number.{number_of}
 use Rattle.refusal.specs.Outcome.{Outcome, given, refused}
 use Rattle.words.specs.Words.{set_size}
 use Rattle.fields.specs.Samples.{samples_at}
 use Rattle.space_packets.specs.declared.Primary.{Primary}
 use Rattle.space_packets.specs.declared.PacketHeader.{PacketHeader}
-use Rattle.space_packets.specs.declared.HeaderRead.{HeaderRead}
-use Rattle.space_packets.specs.declared.Imported.{Imported}
-use Rattle.space_packets.specs.declared.Exported.{Exported}
+use Rattle.space_packets.specs.declared.Import.{Import}
+use Rattle.space_packets.specs.declared.Export.{Export}
 use Rattle.space_packets.specs.Packet.{primary_in, is_stated, is_whole, most_samples, packet_count, count_of, packets_bytes, packets_length}
 
 -- ---- import
@@ -33,14 +31,9 @@ header_found packet =
     cond (ltb (length packet) 6) (refused 23)
     (header_of_sets (set_size (primary_in packet).apid) (primary_in packet) (length packet - 6))
 
--- what a packet gives: its APID and count, and how many samples were written
-pub record Found : Type 0 where
-  pub header : PacketHeader
-  pub samples : ℕ
-
 -- what an import leaves: its answer, and the output afterwards
 pub record ImportLeft : Type 0 where
-  pub answer : Outcome Found
+  pub answer : Outcome Import
   pub samples : List ℤ
 
 -- the samples of a packet: two bytes for each behind the header
@@ -63,14 +56,9 @@ packet_imported packet out = samples_imported packet out (header_found packet)
 
 -- ---- export
 
--- what is answered: the bytes written, and the next count
-pub record Sent : Type 0 where
-  pub bytes : ℕ
-  pub next : ℕ
-
 -- what an export leaves: its answer, and the output afterwards
 pub record ExportLeft : Type 0 where
-  pub answer : Outcome Sent
+  pub answer : Outcome Export
   pub out : List ℕ
 
 abbrev pub export_refused : ℕ → List ℕ → ExportLeft
@@ -105,17 +93,3 @@ exported_sets (given words) apid first samples out = sets_exported words apid fi
 -- refused by 4, then 22, 23, 2
 unfoldable pub packets_exported : ℕ → ℕ → List ℤ → List ℕ → ExportLeft
 packets_exported apid first samples out = exported_sets (set_size apid) apid first samples out
-
--- ---- the answers of the code in these terms
-
-abbrev pub header_outcome : HeaderRead → Outcome PacketHeader
-header_outcome (HeaderRead.Header h) = given h
-header_outcome (HeaderRead.Refused r) = refused (number_of r)
-
-abbrev pub import_outcome : Imported → Outcome Found
-import_outcome (Imported.Packet h n) = given (record { header = h; samples = n })
-import_outcome (Imported.Refused r) = refused (number_of r)
-
-abbrev pub export_outcome : Exported → Outcome Sent
-export_outcome (Exported.Packets bytes next) = given (record { bytes = bytes; next = next })
-export_outcome (Exported.Refused r) = refused (number_of r)

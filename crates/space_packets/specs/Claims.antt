@@ -8,7 +8,9 @@ use Rattle.fields.specs.BitFields.{width_of, FitWidths}
 use Rattle.space_packets.specs.declared.Primary.{Primary}
 use Rattle.space_packets.specs.declared.PacketHeader.{PacketHeader}
 use Rattle.space_packets.specs.Packet.{widths, field_numbers, primary_bytes, primary_in, stated, packet_bytes, most_samples, packet_count, samples_of, count_of, packets_length}
-use Rattle.space_packets.specs.Calls.{header_taken, header_found, Found, ImportLeft, packet_imported, Sent, packets_exported}
+use Rattle.space_packets.specs.declared.Import.{Import}
+use Rattle.space_packets.specs.declared.Export.{Export}
+use Rattle.space_packets.specs.Calls.{header_taken, header_found, ImportLeft, packet_imported, packets_exported}
 
 -- ---- the primary header: one definition for both directions
 
@@ -116,7 +118,7 @@ WorkedMost = map most_samples (3 ∷ 7 ∷ []) ≡ 2043 ∷ 2044 ∷ []
 -- ---- exports that are accepted
 
 -- what an accepted export is given and answers
-pub record Sends (apid first : ℕ) (samples : List ℤ) (out : List ℕ) (s : Sent) : Type 0 where
+pub record Sends (apid first : ℕ) (samples : List ℤ) (out : List ℕ) (s : Export) : Type 0 where
   pub words : ℕ
   pub sets : set_size apid ≡ given words
   pub counted : first ≤ 16383
@@ -128,13 +130,13 @@ pub record Sends (apid first : ℕ) (samples : List ℤ) (out : List ℕ) (s : S
 
 abbrev pub ExportExactly : Type 0
 ExportExactly =
-    (apid first : ℕ) (samples : List ℤ) (out : List ℕ) (s : Sent) →
+    (apid first : ℕ) (samples : List ℤ) (out : List ℕ) (s : Export) →
     ((packets_exported apid first samples out).answer ≡ given s) ↔ Sends apid first samples out s
 
 -- an accepted export leaves all behind its bytes as it was
 abbrev pub RestStays : Type 0
 RestStays =
-    (apid first : ℕ) (samples : List ℤ) (out : List ℕ) (s : Sent) → (packets_exported apid first samples out).answer ≡ given s →
+    (apid first : ℕ) (samples : List ℤ) (out : List ℕ) (s : Export) → (packets_exported apid first samples out).answer ≡ given s →
     (packets_exported apid first samples out).out ≡ overwrite (take s.bytes (packets_exported apid first samples out).out) out
 
 -- ---- import after export
@@ -152,7 +154,7 @@ pub record Got : Type 0 where
   pub count : ℕ
   pub samples : List ℤ
 
-abbrev pub got_by : Outcome Found → List ℤ → Outcome Got
+abbrev pub got_by : Outcome Import → List ℤ → Outcome Got
 got_by (given f) samples = given (record { apid = f.header.apid; count = f.header.count; samples = take f.samples samples })
 got_by (refused n) samples = refused n
 
@@ -162,7 +164,7 @@ got_from out packet = got_by (packet_imported packet out).answer (packet_importe
 -- importing the packets of an export one after the other gives the APID, the counts first, first + 1, .. modulo 16384, and the samples of each
 abbrev pub ExportImported : Type 0
 ExportImported =
-    (apid first words : ℕ) (samples : List ℤ) (out : List ℕ) (s : Sent) (back : List ℤ) →
+    (apid first words : ℕ) (samples : List ℤ) (out : List ℕ) (s : Export) (back : List ℤ) →
     set_size apid ≡ given words → Are16 samples → (packets_exported apid first samples out).answer ≡ given s → most_samples words ≤ length back →
     map (got_from back) (packets_in s.bytes (take s.bytes (packets_exported apid first samples out).out))
     ≡ tabulate (packet_count (length samples) (most_samples words))
@@ -181,14 +183,14 @@ samples_got (given g ∷ gots) = before g.samples (samples_got gots)
 -- importing the packets of an export one after the other gives the same samples, all of them in order
 abbrev pub AllImported : Type 0
 AllImported =
-    (apid first : ℕ) (samples : List ℤ) (out : List ℕ) (s : Sent) (back : List ℤ) →
+    (apid first : ℕ) (samples : List ℤ) (out : List ℕ) (s : Export) (back : List ℤ) →
     Are16 samples → (packets_exported apid first samples out).answer ≡ given s → 2044 ≤ length back →
     samples_got (map (got_from back) (packets_in s.bytes (take s.bytes (packets_exported apid first samples out).out))) ≡ given samples
 
 -- what an import accepts, an export of its samples with its count writes again byte for byte
 abbrev pub ImportExported : Type 0
 ImportExported =
-    (packet : List ℕ) (out : List ℤ) (found : Found) (back : List ℕ) →
+    (packet : List ℕ) (out : List ℤ) (found : Import) (back : List ℕ) →
     AreBytes packet → (packet_imported packet out).answer ≡ given found → length packet ≤ length back →
     packets_exported found.header.apid found.header.count (take found.samples (packet_imported packet out).samples) back
     ≡ record { answer = given (record { bytes = length packet; next = count_of found.header.count 1 }); out = overwrite packet back }
@@ -268,7 +270,7 @@ ShortSamplesRefused =
     (packet_imported packet out).answer ≡ refused 2
 
 -- the header alone is that of an import, or refused as it is
-abbrev pub header_of : Outcome Found → Outcome PacketHeader
+abbrev pub header_of : Outcome Import → Outcome PacketHeader
 header_of (given f) = given f.header
 header_of (refused n) = refused n
 
@@ -315,10 +317,10 @@ WorkedImports =
     ≡ 0 ∷ 0 ∷ 0 ∷ 23 ∷ 4 ∷ 4 ∷ 4 ∷ 22 ∷ 22 ∷ 22 ∷ 22 ∷ 22 ∷ 22 ∷ 23 ∷ 23 ∷ 23 ∷ 23 ∷ 23 ∷ 23 ∷ 23 ∷ 23 ∷ 4 ∷ 22 ∷ 4 ∷ 22 ∷ 22 ∷ 4 ∷ []
 
 -- the answer of an export with so many samples and so many bytes of output
-abbrev pub export_answer : ℕ → ℕ → ℕ → ℕ → Outcome Sent
+abbrev pub export_answer : ℕ → ℕ → ℕ → ℕ → Outcome Export
 export_answer apid first samples out = (packets_exported apid first (replicate samples (pos 0)) (replicate out 0)).answer
 
-abbrev pub sent : ℕ → ℕ → Outcome Sent
+abbrev pub sent : ℕ → ℕ → Outcome Export
 sent bytes next = given (record { bytes = bytes; next = next })
 
 -- one set; a full packet of each size, and one set more; counts that pass 16383; APIDs 0x4E and 0x42; a first count of 16384; no samples; a sample

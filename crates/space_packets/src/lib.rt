@@ -1,14 +1,14 @@
 // Space packets of waveform sets (02, ticket 7; CCSDS 133.0-B): export and import.
 #![tactic(auto)]
 
-ghost use Rattle.std.specs.Prelude.{◌≡◌, cond, ◌+◌, ◌*◌, ◌≤◌, ◌<◌, leb, ltb, length};
+ghost use Rattle.std.specs.Prelude.{◌≡◌, ◌+◌, ◌*◌, ◌≤◌, ◌<◌, leb, length};
+ghost use Rattle.refusal.specs.Outcome.{answer_outcome};
 ghost use Rattle.lists.specs.Tables.{overwrite};
 ghost use Rattle.fields.specs.BitFields.{FitWidths};
 ghost use Rattle.space_packets.specs.Packet.{widths, field_numbers, primary_bytes, primary_in, packet_bytes, is_stated, is_whole, most_samples, packet_count, count_of, packets_bytes, packets_length};
-ghost use Rattle.space_packets.specs.Calls.{header_taken, header_found, header_outcome, ImportLeft, import_outcome, packet_imported, ExportLeft, export_outcome, are_sets, sets_exported, packets_exported};
+ghost use Rattle.space_packets.specs.Calls.{header_taken, header_found, ImportLeft, packet_imported, ExportLeft, are_sets, sets_exported, packets_exported};
 
-use refusal::{Refusal, Written};
-use words::SetWords;
+use refusal::Refusal;
 
 // The bytes of a primary header, and the most bytes of a packet.
 pub const HEADER: usize = 6;
@@ -43,25 +43,18 @@ pub struct PacketHeader {
     pub count: u16,
 }
 
-// The header of a packet, or the refusal.
+// What an import gives: the packet's header, and how many samples were written.
 #[derive(Clone, Copy)]
-pub enum HeaderRead {
-    Header(PacketHeader),
-    Refused(Refusal),
+pub struct Import {
+    pub header: PacketHeader,
+    pub samples: usize,
 }
 
-// The header of a packet and the number of samples written, or the refusal.
+// What an export gives: the bytes written, and the count of the next packet.
 #[derive(Clone, Copy)]
-pub enum Imported {
-    Packet(PacketHeader, usize),
-    Refused(Refusal),
-}
-
-// The number of bytes written and the next count, or the refusal.
-#[derive(Clone, Copy)]
-pub enum Exported {
-    Packets(usize, u16),
-    Refused(Refusal),
+pub struct Export {
+    pub bytes: usize,
+    pub next: u16,
 }
 
 // The primary header of a packet.
@@ -69,8 +62,8 @@ fn primary_in(packet: &[u8]) -> Primary
     requires { 6 ≤ length packet.now }
     ensures { result ≡ primary_in packet.now }
 {
-    let identification = words::pair(packet[0], packet[1]);
-    let sequence = words::pair(packet[2], packet[3]);
+    let identification = u16::from_be_bytes([packet[0], packet[1]]);
+    let sequence = u16::from_be_bytes([packet[2], packet[3]]);
     Primary {
         version: (identification / 8192) as u8,
         kind: (identification / 4096 % 2) as u8,
@@ -78,7 +71,7 @@ fn primary_in(packet: &[u8]) -> Primary
         apid: identification % 2048,
         flags: (sequence / 16384) as u8,
         count: sequence % 16384,
-        length: words::pair(packet[4], packet[5]),
+        length: u16::from_be_bytes([packet[4], packet[5]]),
     }
 }
 
@@ -87,13 +80,15 @@ fn put_primary(primary: Primary, packet: &mut [u8])
     requires { FitWidths widths (field_numbers primary) × (6 ≤ length packet.old) }
     ensures { packet.new ≡ overwrite (primary_bytes primary) packet.old }
 {
-    let high = primary.version * 32 + primary.kind * 16 + primary.secondary * 8;
-    packet[0] = high + (primary.apid / 256) as u8;
-    packet[1] = (primary.apid % 256) as u8;
-    packet[2] = primary.flags * 64 + (primary.count / 256) as u8;
-    packet[3] = (primary.count % 256) as u8;
-    packet[4] = (primary.length / 256) as u8;
-    packet[5] = (primary.length % 256) as u8;
+    let identification = primary.version as u16 * 8192
+        + primary.kind as u16 * 4096
+        + primary.secondary as u16 * 2048
+        + primary.apid;
+    let sequence = primary.flags as u16 * 16384 + primary.count;
+    let [byte0, byte1] = identification.to_be_bytes();
+    let [byte2, byte3] = sequence.to_be_bytes();
+    let [byte4, byte5] = primary.length.to_be_bytes();
+    packet[..HEADER].copy_from_slice(&[byte0, byte1, byte2, byte3, byte4, byte5]);
 }
 
 // Whether the version, the type, the secondary header flag and the sequence flags are as stated.
@@ -115,50 +110,47 @@ fn is_whole(words: usize, field: u16, size: usize) -> bool
 }
 
 // The header of a packet by the words of a set. Refused by 22, then 23.
-fn take_header(words: usize, primary: Primary, size: usize) -> HeaderRead
+fn take_header(words: usize, primary: Primary, size: usize) -> Result<PacketHeader, Refusal>
     requires { (0 < words) × (2 * words ≤ 4090) }
-    ensures { header_outcome result ≡ header_taken words primary size }
+    ensures { answer_outcome result ≡ header_taken words primary size }
 {
     if !is_stated(primary) {
-        return HeaderRead::Refused(Refusal::WrongHeaderField);
+        Err(Refusal::WrongHeaderField)
+    } else if !is_whole(words, primary.length, size) {
+        Err(Refusal::WrongDataLength)
+    } else {
+        Ok(PacketHeader {
+            apid: primary.apid,
+            count: primary.count,
+        })
     }
-    if !is_whole(words, primary.length, size) {
-        return HeaderRead::Refused(Refusal::WrongDataLength);
-    }
-    HeaderRead::Header(PacketHeader {
-        apid: primary.apid,
-        count: primary.count,
-    })
 }
 
 // The header of a packet. Refused by 23, then 4, then 22, then 23.
-pub fn read_header(packet: &[u8]) -> HeaderRead
-    ensures { header_outcome result ≡ header_found packet.now }
+pub fn read_header(packet: &[u8]) -> Result<PacketHeader, Refusal>
+    ensures { answer_outcome result ≡ header_found packet.now }
 {
     if packet.len() < HEADER {
-        return HeaderRead::Refused(Refusal::WrongDataLength);
+        return Err(Refusal::WrongDataLength);
     }
     let primary = primary_in(packet);
-    if primary.apid > 255 {
-        return HeaderRead::Refused(Refusal::UnknownApid);
-    }
-    match words::set_words(primary.apid as u8) {
-        SetWords::Count(words) => take_header(words, primary, packet.len() - HEADER),
-        SetWords::Refused(refusal) => HeaderRead::Refused(refusal),
-    }
+    let Ok(apid) = u8::try_from(primary.apid) else {
+        return Err(Refusal::UnknownApid);
+    };
+    let words = words::set_words(apid)?;
+    take_header(words, primary, packet.len() - HEADER)
 }
 
 // Imports a packet; answers its header and the number of samples written. Refused by 23, then 4, then 22, then 23, then 2.
-pub fn import_packet(packet: &[u8], samples: &mut [i16]) -> Imported
-    ensures { record { answer = import_outcome result; samples = samples.new } ≡ packet_imported packet.now samples.old }
+pub fn import_packet(packet: &[u8], samples: &mut [i16]) -> Result<Import, Refusal>
+    ensures { record { answer = answer_outcome result; samples = samples.new } ≡ packet_imported packet.now samples.old }
 {
-    match read_header(packet) {
-        HeaderRead::Header(header) => match fields::get_samples(&packet[HEADER..], samples) {
-            Written::Count(n) => Imported::Packet(header, n),
-            Written::Refused(refusal) => Imported::Refused(refusal),
-        },
-        HeaderRead::Refused(refusal) => Imported::Refused(refusal),
-    }
+    let header = read_header(packet)?;
+    let count = fields::get_samples(&packet[HEADER..], samples)?;
+    Ok(Import {
+        header,
+        samples: count,
+    })
 }
 
 // Writes one packet at the front of a list.
@@ -177,7 +169,8 @@ fn put_packet(apid: u8, count: u16, samples: &[i16], out: &mut [u8])
         length: (size - 1) as u16,
     };
     put_primary(primary, out);
-    fields::put_samples(samples, &mut out[HEADER..HEADER + size]);
+    // never refused: there is room
+    let _ = fields::put_samples(samples, &mut out[HEADER..HEADER + size]);
 }
 
 // The most samples of a packet by the words of a set; those of the waveforms' sets without a division.
@@ -198,12 +191,10 @@ fn packet_count(samples: usize, most: usize) -> usize
     ensures { result ≡ packet_count samples most }
 {
     if samples <= most {
-        return 1;
+        1
+    } else {
+        samples.div_ceil(most)
     }
-    if samples % most == 0 {
-        return samples / most;
-    }
-    samples / most + 1
 }
 
 // Whether a list of so many bytes has room for the packets: six bytes for each, and two for each sample.
@@ -222,16 +213,6 @@ fn count_after(count: u16) -> u16
         return 0;
     }
     count + 1
-}
-
-// The samples of the next packet, where so many are left.
-fn next_samples(left: usize, most: usize) -> usize
-    ensures { result ≡ cond (ltb left most) left most }
-{
-    if left < most {
-        return left;
-    }
-    most
 }
 
 // Writes the packets of samples one after the other; answers the next count. One packet is written without a loop around it.
@@ -253,7 +234,7 @@ fn put_packets(
     let mut count = first;
     for p in 0..packets {
         let from = p * most;
-        let n = next_samples(samples.len() - from, most);
+        let n = most.min(samples.len() - from);
         let at = HEADER * p + 2 * from;
         put_packet(
             apid,
@@ -275,32 +256,44 @@ fn are_sets(words: usize, samples: usize) -> bool
 }
 
 // Exports sets of so many words. Refused by 22, then 23, then 2.
-fn export_sets(apid: u8, words: usize, first: u16, samples: &[i16], out: &mut [u8]) -> Exported
+fn export_sets(
+    apid: u8,
+    words: usize,
+    first: u16,
+    samples: &[i16],
+    out: &mut [u8],
+) -> Result<Export, Refusal>
     requires { (0 < words) × (2 * words ≤ 4090) }
-    ensures { record { answer = export_outcome result; out = out.new } ≡ sets_exported words apid first samples.now out.old }
+    ensures { record { answer = answer_outcome result; out = out.new } ≡ sets_exported words apid first samples.now out.old }
 {
     if first > LAST_COUNT {
-        return Exported::Refused(Refusal::WrongHeaderField);
+        return Err(Refusal::WrongHeaderField);
     }
     if !are_sets(words, samples.len()) {
-        return Exported::Refused(Refusal::WrongDataLength);
+        return Err(Refusal::WrongDataLength);
     }
     let most = most_samples(words);
     let packets = packet_count(samples.len(), most);
     if !has_room(samples.len(), packets, out.len()) {
-        return Exported::Refused(Refusal::WrongLength);
+        return Err(Refusal::WrongLength);
     }
     let next = put_packets(apid, first, most, packets, samples, out);
-    Exported::Packets(HEADER * packets + 2 * samples.len(), next)
+    Ok(Export {
+        bytes: HEADER * packets + 2 * samples.len(),
+        next,
+    })
 }
 
 // Exports whole sets of a waveform APID as packets, the first with the count given; answers the number of bytes written and the next count.
 // Refused by 4, then 22, then 23, then 2.
-pub fn export_packets(apid: u8, first: u16, samples: &[i16], out: &mut [u8]) -> Exported
-    ensures { record { answer = export_outcome result; out = out.new } ≡ packets_exported apid first samples.now out.old }
+pub fn export_packets(
+    apid: u8,
+    first: u16,
+    samples: &[i16],
+    out: &mut [u8],
+) -> Result<Export, Refusal>
+    ensures { record { answer = answer_outcome result; out = out.new } ≡ packets_exported apid first samples.now out.old }
 {
-    match words::set_words(apid) {
-        SetWords::Count(words) => export_sets(apid, words, first, samples, out),
-        SetWords::Refused(refusal) => Exported::Refused(refusal),
-    }
+    let words = words::set_words(apid)?;
+    export_sets(apid, words, first, samples, out)
 }

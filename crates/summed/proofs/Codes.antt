@@ -11,6 +11,10 @@ use Rattle.summed.specs.Totals.{code_bytes}
 use Rattle.summed.specs.Book.{Book, exact_sum}
 use Rattle.summed.specs.Claims.{CodeOf, run_codes, TotalsOf, CodesWritten}
 
+-- the code of total i
+abbrev pub code_at : List ℕ → ℕ → ℕ
+code_at totals i = sum_code (get_or totals i 0)
+
 pub code_of : (sum : ℕ) → sum < 2 ^ 64 → CodeOf sum (sum_code sum)
 code_of sum h = record { own = refl; expanded = sum-expanded sum h; bounds = sum-bounds sum }
 

@@ -1,7 +1,7 @@
 -- 02, ticket 4: one call. The refusals come in the order 2, 3, 17.
 use Rattle.std.specs.Prelude.{ℕ, ◌+◌, Bool, cond, not, ◌&&◌, List, ◌++◌, length, take, drop, ℤ, ◌==◌, nat_le, nat_lt}
 use Rattle.lists.specs.Tables.{overwrite}
-use Rattle.refusal.specs.Outcome.{Outcome, given, refused, written_outcome}
+use Rattle.refusal.specs.Outcome.{Outcome, given, refused, answer_outcome}
 use Rattle.summed.specs.declared.SumState.{SumState}
 use Rattle.summed.specs.declared.Summed.{Summed}
 use Rattle.summed.specs.Totals.{no_totals, run_sound, with_component, code_bytes}
@@ -18,7 +18,7 @@ pub record SumLeft : Type 0 where
   pub out : List ℕ
 
 abbrev pub sum_left : Summed → List ℕ → List ℕ → SumLeft
-sum_left s totals out = record { answer = written_outcome s.answer; state = s.state; totals = totals; out = out }
+sum_left s totals out = record { answer = answer_outcome s.answer; state = s.state; totals = totals; out = out }
 
 -- refused: all is as it was
 abbrev pub sum_refused : ℕ → SumState → List ℕ → List ℕ → SumLeft

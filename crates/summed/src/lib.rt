@@ -4,13 +4,11 @@
 ghost use Rattle.std.specs.Prelude.{◌≡◌, ◌+◌, ◌*◌, ◌^◌, ◌<◌, ◌≤◌, ◌++◌, length, take, drop};
 ghost use Rattle.lists.specs.Tables.{overwrite};
 ghost use Rattle.summed.specs.Component.{square, has_component};
-ghost use Rattle.summed.specs.Totals.{no_totals, counted_before, run_sound, added_run, code_bytes};
+ghost use Rattle.summed.specs.Totals.{counted_before, run_sound, added_run, code_bytes};
 ghost use Rattle.summed.specs.Call.{start_state, are_lengths, sound, in_force, totals_with, sum_left, accepted, component_summed};
 ghost use Rattle.summed.specs.Private.{AddedTo, Ready};
-ghost use Rattle.refusal.specs.declared.Written.{Written};
 
-use refusal::{Refusal, Written};
-use std::num::wrapping_sub_u64;
+use refusal::Refusal;
 
 // What is kept between calls, beside the totals: the next component, from 0, and the two masks.
 #[derive(Clone, Copy)]
@@ -23,7 +21,7 @@ pub struct SumState {
 // The number of bytes written or the refusal, and the state after the call.
 #[derive(Clone, Copy)]
 pub struct Summed {
-    pub answer: Written,
+    pub answer: Result<usize, Refusal>,
     pub state: SumState,
 }
 
@@ -93,9 +91,9 @@ fn run_sound(mask: u8, n: u8, run: &[u64]) -> bool
 {
     let most = greatest(mask, n);
     // the highest bit is set by a total that is over it: in their difference, or in the total itself
-    let mut bits: u64 = 0;
+    let mut bits = 0;
     for k in 0..run.len() {
-        bits = bits | run[k] | wrapping_sub_u64(most, run[k]);
+        bits = bits | run[k] | most.wrapping_sub(run[k]);
     }
     bits < 0x8000_0000_0000_0000
 }
@@ -142,19 +140,9 @@ fn put_codes(totals: &[u64], out: &mut [u8])
     ensures { out.new ≡ overwrite (code_bytes totals.now) out.old }
 {
     for i in 0..totals.len() {
-        let code = codes::compress_sum(totals[i]);
-        out[2 * i] = (code / 256) as u8;
-        out[2 * i + 1] = (code % 256) as u8;
-    }
-}
-
-// Sets every total to 0.
-fn clear(totals: &mut [u64])
-    requires { length totals.old ≡ 2048 }
-    ensures { totals.new ≡ no_totals }
-{
-    for i in 0..totals.len() {
-        totals[i] = 0;
+        let [high, low] = codes::compress_sum(totals[i]).to_be_bytes();
+        out[2 * i] = high;
+        out[2 * i + 1] = low;
     }
 }
 
@@ -201,7 +189,7 @@ fn accept(state: SumState, totals: &mut [u64], pairs: &[i16], out: &mut [u8]) ->
     let n = state.next;
     if n < SumState::COMPONENTS - 1 {
         return Summed {
-            answer: Written::Count(0),
+            answer: Ok(0),
             state: SumState {
                 next: n + 1,
                 first: state.first,
@@ -210,9 +198,9 @@ fn accept(state: SumState, totals: &mut [u64], pairs: &[i16], out: &mut [u8]) ->
         };
     }
     put_codes(totals, out);
-    clear(totals);
+    totals.fill(0);
     Summed {
-        answer: Written::Count(SumState::OUTPUT),
+        answer: Ok(SumState::OUTPUT),
         state: SumState {
             next: 0,
             first: state.first,
@@ -229,10 +217,10 @@ fn are_lengths(totals: usize, pairs: usize, out: usize) -> bool
 }
 
 fn refused(state: SumState, refusal: Refusal) -> Summed
-    ensures { result ≡ record { answer = Written.Refused refusal; state = state } }
+    ensures { result ≡ record { answer = Err refusal; state = state } }
 {
     Summed {
-        answer: Written::Refused(refusal),
+        answer: Err(refusal),
         state,
     }
 }

@@ -3,10 +3,10 @@
 // state, and of the whole memory of totals and output, with what lies past the lengths lent, one bin and a sum over all.
 #![tactic(auto)]
 
-ghost use Rattle.std.specs.Prelude.{◌+◌, ◌<◌, ◌≤◌, length};
+ghost use Rattle.std.specs.Prelude.{◌+◌, ◌≤◌, length};
 
-use input::{Input, read_input};
-use refusal::Written;
+use input::read_input;
+use refusal::Refusal;
 use std::io;
 use std::io::{BufWriter, Read, Write};
 use summed::{SumState, Summed};
@@ -31,84 +31,37 @@ fn expect<W: Write>(writer: &mut W, ok: bool) -> io::Result<()> {
     Ok(())
 }
 
-// 16 bits of two bytes, high byte first.
-fn pair(a: u8, b: u8) -> u16 {
-    a as u16 * 256 + b as u16
-}
-
 // The 16 bits of an operation from a place on.
-fn number_at(operation: &[u8], at: usize) -> usize
+fn pair_at(operation: &[u8], at: usize) -> u16
     requires { at + 2 ≤ length operation.now }
-    ensures { result ≤ 65535 }
 {
-    pair(operation[at], operation[at + 1]) as usize
+    u16::from_be_bytes([operation[at], operation[at + 1]])
 }
 
 // Its 32 bits from a place on.
-fn quad_at(operation: &[u8], at: usize) -> u64
+fn quad_at(operation: &[u8], at: usize) -> u32
     requires { at + 4 ≤ length operation.now }
 {
-    number_at(operation, at) as u64 * 65536 + number_at(operation, at + 2) as u64
+    u32::from_be_bytes([
+        operation[at],
+        operation[at + 1],
+        operation[at + 2],
+        operation[at + 3],
+    ])
 }
 
 // The part that an operation gives plus 32,768.
-fn part(excess: u16) -> i16 {
-    if excess < 32768 {
-        !((32767 - excess) as i16)
-    } else {
-        (excess - 32768) as i16
-    }
+fn part_of(excess: u16) -> i16 {
+    (excess as i32 - 32768) as i16
 }
 
-// A part with a step added, by 16 bits.
-fn stepped(excess: u16, step: u16) -> u16 {
-    ((excess as u32 + step as u32) % 65536) as u16
-}
-
-fn put_part(pairs: &mut [i16], i: usize, excess: u16)
-    requires { i < length pairs.old }
-{
-    pairs[i] = part(excess);
-}
-
-// The parts of the bins in a range: those of the first, and a step more for each bin.
-fn put_pairs(
-    pairs: &mut [i16],
-    from: usize,
-    to: usize,
-    re: u16,
-    re_step: u16,
-    im: u16,
-    im_step: u16,
-)
-    requires { to + to ≤ length pairs.old }
-{
-    let mut k = from;
-    let mut re = re;
-    let mut im = im;
-    while k < to {
-        put_part(pairs, k + k, re);
-        put_part(pairs, k + k + 1, im);
-        re = stepped(re, re_step);
-        im = stepped(im, im_step);
-        k += 1;
-    }
-}
-
-// One value for the totals in a range.
-fn put_totals(totals: &mut [u64], from: usize, to: usize, value: u64)
-    requires { to ≤ length totals.old }
-{
-    let mut i = from;
-    while i < to {
-        totals[i] = value;
-        i += 1;
-    }
-}
-
-fn put_old_bytes(out: &mut [u8]) {
-    for i in 0..out.len() {
-        out[i] = OLD_BYTE;
+// The parts of each bin: those of the first, and a step more for each bin.
+fn put_pairs(pairs: &mut [i16], mut re: u16, re_step: u16, mut im: u16, im_step: u16) {
+    for pair in pairs.chunks_exact_mut(2) {
+        pair[0] = part_of(re);
+        pair[1] = part_of(im);
+        re = re.wrapping_add(re_step);
+        im = im.wrapping_add(im_step);
     }
 }
 
@@ -118,61 +71,49 @@ fn mixed(sum: u64, n: u64) -> u64 {
 }
 
 fn sum_of_totals(totals: &[u64]) -> u64 {
-    let mut sum: u64 = 0;
-    for i in 0..totals.len() {
-        sum = mixed(sum, totals[i]);
+    let mut sum = 0;
+    for total in totals {
+        sum = mixed(sum, *total);
     }
     sum
-}
-
-fn wide(byte: u8) -> u64 {
-    byte as u64
 }
 
 fn sum_of_bytes(bytes: &[u8]) -> u64 {
-    let mut sum: u64 = 0;
-    for i in 0..bytes.len() {
-        sum = mixed(sum, wide(bytes[i]));
+    let mut sum = 0;
+    for byte in bytes {
+        sum = mixed(sum, *byte as u64);
     }
     sum
 }
 
-// Prints a number in so many hexadecimal digits.
-fn show_number<W: Write>(writer: &mut W, n: u64, digits: usize) -> io::Result<()> {
-    write!(writer, " {n:0digits$x}")
-}
-
-fn show_answer<W: Write>(writer: &mut W, answer: Written) -> io::Result<()> {
+fn show_answer<W: Write>(writer: &mut W, answer: Result<usize, Refusal>) -> io::Result<()> {
     match answer {
-        Written::Count(n) => {
-            write!(writer, "{n}")?;
-        }
-        Written::Refused(refusal) => {
-            write!(writer, "refused {}", refusal::number(refusal))?;
-        }
+        Ok(n) => write!(writer, "{n}"),
+        Err(refusal) => write!(writer, "refused {}", refusal::number(refusal)),
     }
-    Ok(())
 }
 
 fn show_state<W: Write>(writer: &mut W, state: SumState) -> io::Result<()> {
-    writer.write_all(b"; state")?;
-    show_number(writer, state.next as u64, 2)?;
-    show_number(writer, state.first as u64, 2)?;
-    show_number(writer, state.second as u64, 2)
+    write!(
+        writer,
+        "; state {:02x} {:02x} {:02x}",
+        state.next, state.first, state.second
+    )
 }
 
 fn show_total<W: Write>(writer: &mut W, totals: &[u64], i: usize) -> io::Result<()> {
-    writer.write_all(b" ")?;
-    if i < totals.len() {
-        write!(writer, "{}", totals[i])?;
+    match totals.get(i) {
+        Some(total) => write!(writer, " {total}"),
+        None => writer.write_all(b" "),
     }
-    Ok(())
 }
 
 // Prints two bytes of the output.
-fn show_code<W: Write>(writer: &mut W, out: &[u8], high: usize, low: usize) -> io::Result<()> {
-    if high < out.len() && low < out.len() {
-        show_number(writer, pair(out[high], out[low]) as u64, 4)?;
+fn show_code<W: Write>(writer: &mut W, out: &[u8], at: usize) -> io::Result<()>
+    requires { at ≤ 200000 }
+{
+    if at + 2 <= out.len() {
+        write!(writer, " {:04x}", pair_at(out, at))?;
     }
     Ok(())
 }
@@ -185,14 +126,13 @@ fn show_memory<W: Write>(writer: &mut W, totals: &[u64], out: &[u8], k: usize) -
     show_total(writer, totals, k)?;
     show_total(writer, totals, k + SumState::BINS)?;
     writer.write_all(b"; codes")?;
-    show_code(writer, out, 2 * k, 2 * k + 1)?;
-    show_code(writer, out, 2 * k + 2048, 2 * k + 2049)?;
+    show_code(writer, out, 2 * k)?;
+    show_code(writer, out, 2 * (k + SumState::BINS))?;
     writer.write_all(b"; rest")?;
-    show_code(writer, out, SumState::OUTPUT, SumState::OUTPUT + 1)?;
-    writer.write_all(b"; all")?;
-    show_number(writer, sum_of_totals(totals), 8)?;
-    show_number(writer, sum_of_bytes(out), 8)?;
-    writer.write_all(b"\n")
+    show_code(writer, out, SumState::OUTPUT)?;
+    let all_totals = sum_of_totals(totals);
+    let all_bytes = sum_of_bytes(out);
+    writeln!(writer, "; all {all_totals:08x} {all_bytes:08x}")
 }
 
 // Shows what a call left: the state after it.
@@ -205,12 +145,10 @@ fn show_call<W: Write>(
 ) -> io::Result<SumState>
     requires { bin ≤ 65535 }
 {
-    let answer = done.answer;
-    let state = done.state;
-    show_answer(writer, answer)?;
-    show_state(writer, state)?;
+    show_answer(writer, done.answer)?;
+    show_state(writer, done.state)?;
     show_memory(writer, totals, out, bin)?;
-    Ok(state)
+    Ok(done.state)
 }
 
 // The call of an operation, with the lists of the lengths that it has.
@@ -219,7 +157,7 @@ fn sum(
     totals: &mut [u64],
     pairs: &[i16],
     out: &mut [u8],
-    operation: &[u8],
+    operation: &[u8; OPERATION],
 ) -> Summed
     requires { 16 ≤ length operation.now }
 {
@@ -235,13 +173,11 @@ fn call<W: Write>(
     totals: &mut [u64],
     pairs: &[i16],
     out: &mut [u8],
-    operation: &[u8],
-) -> io::Result<SumState>
-    requires { 16 ≤ length operation.now }
-{
-    let count = number_at(operation, 4);
-    let numbers = number_at(operation, 6);
-    let room = number_at(operation, 8);
+    operation: &[u8; OPERATION],
+) -> io::Result<SumState> {
+    let count = pair_at(operation, 4) as usize;
+    let numbers = pair_at(operation, 6) as usize;
+    let room = pair_at(operation, 8) as usize;
     if totals.len() < count || pairs.len() < numbers || out.len() < room {
         expect(writer, false)?;
         return Ok(state);
@@ -253,46 +189,50 @@ fn call<W: Write>(
         &mut out[0..room],
         operation,
     );
-    show_call(writer, done, totals, out, number_at(operation, 10))
+    show_call(writer, done, totals, out, pair_at(operation, 10) as usize)
 }
 
 // The pairs of an operation.
-fn give_pairs<W: Write>(writer: &mut W, pairs: &mut [i16], operation: &[u8]) -> io::Result<()>
-    requires { 16 ≤ length operation.now }
-{
-    let from = number_at(operation, 1);
-    let to = number_at(operation, 3);
-    let re = pair(operation[5], operation[6]);
-    let re_step = pair(operation[7], operation[8]);
-    let im = pair(operation[9], operation[10]);
-    let im_step = pair(operation[11], operation[12]);
-    if pairs.len() < to + to {
-        return expect(writer, false);
+fn give_pairs<W: Write>(
+    writer: &mut W,
+    pairs: &mut [i16],
+    operation: &[u8; OPERATION],
+) -> io::Result<()> {
+    let from = pair_at(operation, 1) as usize;
+    let to = pair_at(operation, 3) as usize;
+    match pairs.get_mut(2 * from.min(to)..2 * to) {
+        Some(bins) => put_pairs(
+            bins,
+            pair_at(operation, 5),
+            pair_at(operation, 7),
+            pair_at(operation, 9),
+            pair_at(operation, 11),
+        ),
+        None => expect(writer, false)?,
     }
-    put_pairs(pairs, from, to, re, re_step, im, im_step);
     Ok(())
 }
 
 // The totals of an operation.
-fn give_totals<W: Write>(writer: &mut W, totals: &mut [u64], operation: &[u8]) -> io::Result<()>
-    requires { 16 ≤ length operation.now }
-{
-    let from = number_at(operation, 1);
-    let to = number_at(operation, 3);
-    let high = quad_at(operation, 5) % 4294967296;
-    let low = quad_at(operation, 9) % 4294967296;
-    if totals.len() < to {
-        return expect(writer, false);
+fn give_totals<W: Write>(
+    writer: &mut W,
+    totals: &mut [u64],
+    operation: &[u8; OPERATION],
+) -> io::Result<()> {
+    let from = pair_at(operation, 1) as usize;
+    let to = pair_at(operation, 3) as usize;
+    let value = quad_at(operation, 5) as u64 * 4294967296 + quad_at(operation, 9) as u64;
+    match totals.get_mut(from.min(to)..to) {
+        Some(range) => range.fill(value),
+        None => expect(writer, false)?,
     }
-    put_totals(totals, from, to, high * 4294967296 + low);
     Ok(())
 }
 
 // Begins a history.
 fn begin(totals: &mut [u64], out: &mut [u8]) -> SumState {
-    let count = totals.len();
-    put_totals(totals, 0, count, 0);
-    put_old_bytes(out);
+    totals.fill(0);
+    out.fill(OLD_BYTE);
     SumState::start()
 }
 
@@ -303,31 +243,28 @@ fn operate<W: Write>(
     totals: &mut [u64],
     pairs: &mut [i16],
     out: &mut [u8],
-    operation: &[u8],
-) -> io::Result<SumState>
-    requires { 16 ≤ length operation.now }
-{
-    let kind = operation[0];
-    if kind == 0 {
-        return Ok(begin(totals, out));
+    operation: &[u8; OPERATION],
+) -> io::Result<SumState> {
+    match operation[0] {
+        0 => Ok(begin(totals, out)),
+        1 => {
+            give_pairs(writer, pairs, operation)?;
+            Ok(state)
+        }
+        2 => {
+            give_totals(writer, totals, operation)?;
+            Ok(state)
+        }
+        4 => call(writer, state, totals, pairs, out, operation),
+        kind => {
+            expect(writer, kind == 3)?;
+            Ok(SumState {
+                next: operation[1],
+                first: operation[2],
+                second: operation[3],
+            })
+        }
     }
-    if kind == 4 {
-        return call(writer, state, totals, pairs, out, operation);
-    }
-    if kind == 1 {
-        give_pairs(writer, pairs, operation)?;
-        return Ok(state);
-    }
-    if kind == 2 {
-        give_totals(writer, totals, operation)?;
-        return Ok(state);
-    }
-    expect(writer, kind == 3)?;
-    Ok(SumState {
-        next: operation[1],
-        first: operation[2],
-        second: operation[3],
-    })
 }
 
 // The operations of input.
@@ -338,14 +275,12 @@ fn run<W: Write>(
     pairs: &mut [i16],
     out: &mut [u8],
 ) -> io::Result<()> {
-    let mut at: usize = 0;
     let mut state = SumState::start();
-    while at + OPERATION <= input.len() {
-        let next = at + OPERATION;
-        state = operate(writer, state, totals, pairs, out, &input[at..next])?;
-        at = next;
+    let (operations, rest) = input.as_chunks::<OPERATION>();
+    for operation in operations {
+        state = operate(writer, state, totals, pairs, out, operation)?;
     }
-    expect(writer, at == input.len())
+    expect(writer, rest.is_empty())
 }
 
 // Shows the cases of standard input, which is read into input.
@@ -357,7 +292,7 @@ fn show_input<R: Read, W: Write>(
     pairs: &mut [i16],
     out: &mut [u8],
 ) -> io::Result<()> {
-    let Input::Bytes(n) = read_input(reader, input) else {
+    let Ok(n) = read_input(reader, input) else {
         return expect(writer, false);
     };
     run(writer, &input[..n], totals, pairs, out)?;

@@ -2,10 +2,8 @@
 -- crate `model` (`AddedPlain` of Claims.antt).
 use Rattle.std.specs.Prelude.{ℕ, ◌+◌, ◌%◌, ◌^◌, cond, not, ◌&&◌, List, length, ◌==◌}
 use Rattle.lists.specs.Tables.{grid}
-use Rattle.refusal.specs.Number.{number_of}
 use Rattle.refusal.specs.Outcome.{Outcome, given, refused}
 use Rattle.registers.specs.declared.Registers.{Registers}
-use Rattle.totals.specs.declared.Added.{Added}
 use Rattle.model.specs.Totals.{in_use, band_power, slot}
 
 -- the total of processor n and band b: if in use, with the band's power added modulo 2 ^ 64
@@ -19,10 +17,6 @@ pub record TotalsLeft : Type 0 where
 
 abbrev pub totals_left : Outcome (Unit {0}) → List ℕ → TotalsLeft
 totals_left answer totals = record { answer = answer; totals = totals }
-
-abbrev pub added_outcome : Added → Outcome (Unit {0})
-added_outcome Added.Done = given tt
-added_outcome (Added.Refused n) = refused (number_of n)
 
 -- 7,168 powers added to 784 totals; 2 for lists of other lengths
 unfoldable pub add_outcome : Registers → List ℕ → List ℕ → TotalsLeft

@@ -1,34 +1,22 @@
 // The totals of a period (01, "Periods"): adding a tick's powers. A row is one processor's 112 totals or 1,024 powers.
 #![tactic(auto)]
 
-ghost use Rattle.std.specs.Prelude.{◌≡◌, ◌≤◌, length, if◌then◌else◌, slice_index};
-ghost use Rattle.lists.specs.Sums.{sum_to};
+ghost use Rattle.std.specs.Prelude.{◌≡◌, ◌≤◌, length, sum, if◌then◌else◌};
+ghost use Rattle.refusal.specs.Outcome.{answer_outcome};
 ghost use Rattle.lists.specs.Tables.{grid};
-ghost use Rattle.totals.specs.Adding.{added_slot, added_outcome, totals_left, add_outcome};
+ghost use Rattle.totals.specs.Adding.{added_slot, totals_left, add_outcome};
 ghost use Rattle.totals.specs.Private.{added_run, added_row, BandsOfWidth};
 
 use model::State;
 use refusal::Refusal;
 use registers::Registers;
-use std::num::wrapping_add_u64;
-
-// The powers are added, or the refusal.
-#[derive(Clone, Copy)]
-pub enum Added {
-    Done,
-    Refused(Refusal),
-}
 
 // The sum of a run of powers.
 fn sum(bins: &[u32]) -> u64
     requires { length bins.now ≤ 1024 }
-    ensures { result ≡ sum_to (length bins.now) (λ j. slice_index bins.now j) }
+    ensures { result ≡ sum bins.now }
 {
-    let mut total: u64 = 0;
-    for i in 0..bins.len() {
-        total += bins[i] as u64;
-    }
-    total
+    bins.iter().map(|power| *power as u64).sum()
 }
 
 // Bands of as many bins.
@@ -36,9 +24,9 @@ fn add_run(row: &mut [u64], powers: &[u32], width: usize)
     requires { BandsOfWidth width row.old powers.now }
     ensures { row.new ≡ added_run width row.old powers.now }
 {
-    for i in 0..row.len() {
-        let k = i * width;
-        row[i] = wrapping_add_u64(row[i], sum(&powers[k..k + width]));
+    for (i, total) in row.iter_mut().enumerate() {
+        let bin = i * width;
+        *total = total.wrapping_add(sum(&powers[bin..bin + width]));
     }
 }
 
@@ -108,15 +96,15 @@ fn add_rows(registers: Registers, totals: &mut [u64], powers: &[u32])
 }
 
 // Adds the powers of one tick, modulo 2^64. Refused by 2 for other numbers of totals and powers than 784 and 7,168.
-pub fn add_spectrum(registers: Registers, totals: &mut [u64], powers: &[u32]) -> Added
-    ensures { totals_left (added_outcome result) totals.new ≡ add_outcome registers totals.old powers.now }
+pub fn add_spectrum(registers: Registers, totals: &mut [u64], powers: &[u32]) -> Result<(), Refusal>
+    ensures { totals_left (answer_outcome result) totals.new ≡ add_outcome registers totals.old powers.now }
 {
     if totals.len() != State::TOTALS {
-        return Added::Refused(Refusal::WrongLength);
+        return Err(Refusal::WrongLength);
     }
     if powers.len() != State::POWERS {
-        return Added::Refused(Refusal::WrongLength);
+        return Err(Refusal::WrongLength);
     }
     add_rows(registers, totals, powers);
-    Added::Done
+    Ok(())
 }

@@ -3,15 +3,11 @@
 // the expected output, from 01, ticket 5 and document 002.
 #![tactic(auto)]
 
-use bands::{BandDescription, BandIndex, Cadence};
-use codes::{BandValue, SumValue};
+use bands::Cadence;
 use refusal::Refusal;
+use std::fmt::Display;
 use std::io;
 use std::io::{BufWriter, Write};
-
-mod show;
-
-use show::{end, hex, name, number, refused};
 
 // The whole number, 0 to 8,192, that a float is; 99,999 for any other float.
 fn whole_number(f: f32) -> u64 {
@@ -23,26 +19,29 @@ fn whole_number(f: f32) -> u64 {
     99999
 }
 
-fn show_band_code<W: Write>(writer: &mut W, value: u32) -> io::Result<()> {
-    name(writer, b"band code of")?;
-    number(writer, value as u64)?;
-    hex(writer, codes::compress_band(value) as u64, 2)?;
-    end(writer)
+// A value, or the number of a refusal, and the line's end.
+fn show_answer<W: Write, T: Display + Drop>(
+    writer: &mut W,
+    answer: Result<T, Refusal>,
+) -> io::Result<()> {
+    match answer {
+        Ok(value) => writeln!(writer, " {value}"),
+        Err(refusal) => writeln!(writer, " refused {}", refusal::number(refusal)),
+    }
 }
 
-fn show_band_value<W: Write>(writer: &mut W, code: u8) -> io::Result<()> {
-    name(writer, b"band code")?;
-    hex(writer, code as u64, 2)?;
-    match codes::expand_band(code) {
-        BandValue::Value(v) => number(writer, v)?,
-        BandValue::Refused(r) => refused(writer, r)?,
-    }
-    end(writer)
+fn show_band_code<W: Write>(writer: &mut W, value: u32) -> io::Result<()> {
+    writeln!(
+        writer,
+        "band code of {value} {:02x}",
+        codes::compress_band(value)
+    )
 }
 
 fn show_band_values<W: Write>(writer: &mut W) -> io::Result<()> {
-    for code in 0u16..256 {
-        show_band_value(writer, code as u8)?;
+    for code in 0..=u8::MAX {
+        write!(writer, "band code {code:02x}")?;
+        show_answer(writer, codes::expand_band(code))?;
     }
     Ok(())
 }
@@ -53,56 +52,39 @@ fn show_codes_around<W: Write>(writer: &mut W, value: u32) -> io::Result<()> {
     show_band_code(writer, value.wrapping_add(1))
 }
 
-// The codes around each quarter of a step of the mantissa.
-fn show_quarters<W: Write>(writer: &mut W, exponent: u32) -> io::Result<()> {
-    for quarters in 16u32..32 {
-        show_codes_around(writer, quarters << exponent % 32)?;
+fn show_small_codes<W: Write>(writer: &mut W) -> io::Result<()> {
+    for value in [1, 4, 7, 10, 13, 16] {
+        show_codes_around(writer, value)?;
     }
     Ok(())
 }
 
-fn show_small_codes<W: Write>(writer: &mut W) -> io::Result<()> {
-    show_codes_around(writer, 1)?;
-    show_codes_around(writer, 4)?;
-    show_codes_around(writer, 7)?;
-    show_codes_around(writer, 10)?;
-    show_codes_around(writer, 13)?;
-    show_codes_around(writer, 16)
-}
-
+// The codes around each quarter of a step of the mantissa.
 fn show_nearest_codes<W: Write>(writer: &mut W) -> io::Result<()> {
     for exponent in 0u32..28 {
-        show_quarters(writer, exponent)?;
+        for quarters in 16u32..32 {
+            show_codes_around(writer, quarters << exponent)?;
+        }
     }
     Ok(())
 }
 
 fn show_sum_code<W: Write>(writer: &mut W, value: u64) -> io::Result<()> {
-    name(writer, b"sum code of")?;
-    number(writer, value)?;
-    hex(writer, codes::compress_sum(value) as u64, 4)?;
-    end(writer)
+    writeln!(
+        writer,
+        "sum code of {value} {:04x}",
+        codes::compress_sum(value)
+    )
 }
 
 fn show_sum_value<W: Write>(writer: &mut W, code: u16) -> io::Result<()> {
-    name(writer, b"sum code")?;
-    hex(writer, code as u64, 4)?;
-    match codes::expand_sum(code) {
-        SumValue::Value(v) => number(writer, v)?,
-        SumValue::Refused(r) => refused(writer, r)?,
-    }
-    end(writer)
+    write!(writer, "sum code {code:04x}")?;
+    show_answer(writer, codes::expand_sum(code))
 }
 
 fn show_bin<W: Write>(writer: &mut W, setting: u8, bin: u16) -> io::Result<()> {
-    name(writer, b"bin")?;
-    number(writer, setting as u64)?;
-    number(writer, bin as u64)?;
-    match bands::band_of(setting, bin) {
-        BandIndex::Band(b) => number(writer, b as u64)?,
-        BandIndex::Refused(r) => refused(writer, r)?,
-    }
-    end(writer)
+    write!(writer, "bin {setting} {bin}")?;
+    show_answer(writer, bands::band_of(setting, bin))
 }
 
 // Every bin, and the first number past them.
@@ -115,22 +97,17 @@ fn show_bins<W: Write>(writer: &mut W, setting: u8) -> io::Result<()> {
 
 // A band, numbered from 1: low edge, high edge, width and centre.
 fn show_description<W: Write>(writer: &mut W, setting: u8, band: u8) -> io::Result<()> {
-    name(writer, b"band")?;
-    number(writer, setting as u64)?;
-    number(writer, band as u64 + 1)?;
+    write!(writer, "band {setting} {}", band as u16 + 1)?;
     match bands::describe_band(setting, band) {
-        BandDescription::Described(d) => {
-            let low = d.low;
-            let width = d.width;
-            let centre = d.centre;
-            number(writer, whole_number(low))?;
-            number(writer, whole_number(low + width))?;
-            number(writer, whole_number(width))?;
-            number(writer, whole_number(centre))?;
+        Ok(d) => {
+            let low = whole_number(d.low);
+            let high = whole_number(d.low + d.width);
+            let width = whole_number(d.width);
+            let centre = whole_number(d.centre);
+            writeln!(writer, " {low} {high} {width} {centre}")
         }
-        BandDescription::Refused(r) => refused(writer, r)?,
+        Err(refusal) => writeln!(writer, " refused {}", refusal::number(refusal)),
     }
-    end(writer)
 }
 
 fn show_descriptions<W: Write>(writer: &mut W, setting: u8, count: u8) -> io::Result<()> {
@@ -140,26 +117,14 @@ fn show_descriptions<W: Write>(writer: &mut W, setting: u8, count: u8) -> io::Re
     Ok(())
 }
 
-fn show_cadence<W: Write>(writer: &mut W, choice: u8) -> io::Result<()> {
-    name(writer, b"cadence")?;
-    number(writer, choice as u64)?;
-    match bands::cadence_of(choice) {
-        Cadence::Rate(f) => {
-            name(writer, b" rate")?;
-            number(writer, whole_number(f))?;
-        }
-        Cadence::Period(f) => {
-            name(writer, b" period")?;
-            number(writer, whole_number(f))?;
-        }
-        Cadence::Refused(r) => refused(writer, r)?,
-    }
-    end(writer)
-}
-
 fn show_cadences<W: Write>(writer: &mut W) -> io::Result<()> {
     for choice in 0u8..12 {
-        show_cadence(writer, choice)?;
+        write!(writer, "cadence {choice}")?;
+        match bands::cadence_of(choice) {
+            Ok(Cadence::Rate(f)) => writeln!(writer, " rate {}", whole_number(f))?,
+            Ok(Cadence::Period(f)) => writeln!(writer, " period {}", whole_number(f))?,
+            Err(refusal) => writeln!(writer, " refused {}", refusal::number(refusal))?,
+        }
     }
     Ok(())
 }

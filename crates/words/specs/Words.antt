@@ -1,13 +1,6 @@
 -- Board words (01, "Words and sets"): an APID and 16 bits; and the words of a set.
 use Rattle.std.specs.Prelude.{ℕ, zero, suc, ◌+◌, ◌*◌, ◌/◌, ◌%◌, ◌<◌, Bool, cond, ◌||◌, List, [], ◌∷◌, eqb, get_or}
-use Rattle.refusal.specs.Number.{number_of}
 use Rattle.refusal.specs.Outcome.{Outcome, given, refused, is_given}
-use Rattle.words.specs.declared.SetWords.{SetWords}
-
--- the number of words of a set in 01's numbers
-abbrev pub set_words_outcome : SetWords → Outcome ℕ
-set_words_outcome (SetWords.Count n) = given n
-set_words_outcome (SetWords.Refused r) = refused (number_of r)
 
 -- the words of a set, by its waveform APID: E_SVY, V_SVY, MAG_SVY, E_B1, V_B1 (7, as 02, ticket 2, says), SCM_B1; refused by 4 for any other, 0x4E too
 unfoldable pub set_size : ℕ → Outcome ℕ

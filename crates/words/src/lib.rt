@@ -2,8 +2,9 @@
 #![tactic(auto)]
 
 ghost use Rattle.std.specs.Prelude.{◌≡◌};
+ghost use Rattle.refusal.specs.Outcome.{answer_outcome};
 ghost use Rattle.words.specs.Sample.{bits_of, sample_of};
-ghost use Rattle.words.specs.Words.{set_words_outcome, set_size, is_apid, pair_of};
+ghost use Rattle.words.specs.Words.{set_size, is_apid, pair_of};
 
 use refusal::Refusal;
 
@@ -11,43 +12,28 @@ use refusal::Refusal;
 pub fn bits_of(sample: i16) -> u16
     ensures { result ≡ bits_of sample }
 {
-    if sample < 0 {
-        65535 - (!sample) as u16
-    } else {
-        sample as u16
-    }
+    sample.cast_unsigned()
 }
 
 // The sample of 16 bits.
 pub fn sample_of(bits: u16) -> i16
     ensures { result ≡ sample_of bits }
 {
-    if bits < 32768 {
-        bits as i16
-    } else {
-        !((65535 - bits) as i16)
-    }
-}
-
-// The number of words of a set, or the refusal.
-#[derive(Clone, Copy)]
-pub enum SetWords {
-    Count(usize),
-    Refused(Refusal),
+    bits.cast_signed()
 }
 
 // The words of a set, by its waveform APID. Refused by 4.
-pub fn set_words(apid: u8) -> SetWords
-    ensures { set_words_outcome result ≡ set_size apid }
+pub fn set_words(apid: u8) -> Result<usize, Refusal>
+    ensures { answer_outcome result ≡ set_size apid }
 {
     match apid {
-        0x43 => SetWords::Count(3),
-        0x44 => SetWords::Count(7),
-        0x45 => SetWords::Count(3),
-        0x46 => SetWords::Count(3),
-        0x47 => SetWords::Count(7),
-        0x48 => SetWords::Count(3),
-        _ => SetWords::Refused(Refusal::UnknownApid),
+        0x43 => Ok(3),
+        0x44 => Ok(7),
+        0x45 => Ok(3),
+        0x46 => Ok(3),
+        0x47 => Ok(7),
+        0x48 => Ok(3),
+        _ => Err(Refusal::UnknownApid),
     }
 }
 
@@ -58,18 +44,12 @@ pub const SPEC: u8 = 0x4E;
 pub fn is_apid(apid: u8) -> bool
     ensures { result ≡ is_apid apid }
 {
-    if apid == SPEC {
-        return true;
-    }
-    match set_words(apid) {
-        SetWords::Count(_) => true,
-        SetWords::Refused(_) => false,
-    }
+    apid == SPEC || set_words(apid).is_ok()
 }
 
 // 16 bits from two bytes, high byte first.
 pub fn pair(high: u8, low: u8) -> u16
     ensures { result ≡ pair_of high low }
 {
-    high as u16 * 256 + low as u16
+    u16::from_be_bytes([high, low])
 }

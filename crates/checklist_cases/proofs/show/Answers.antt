@@ -5,7 +5,7 @@ use Rattle.listing.proofs.Verdicts.{line-within}
 use Rattle.checklist_cases.proofs.show.Goals as goal
 
 pub slice_bounds-write_all-end : goal.slice_bounds-write_all-end
-slice_bounds-write_all-end g c = line-within _ _ _ c.verdict_line.ensures c.in-Count.is
+slice_bounds-write_all-end g c = line-within _ _ _ c.verdict_line.ensures c.in-Ok.is
 
-pub slice_bounds-write_all-end-in-Count : goal.slice_bounds-write_all-end-in-Count
-slice_bounds-write_all-end-in-Count g c = sym (length-take-le _ _ (line-within _ _ _ c.verdict_line.ensures c.in-Count.is))
+pub slice_bounds-write_all-end-in-Ok : goal.slice_bounds-write_all-end-in-Ok
+slice_bounds-write_all-end-in-Ok g c = sym (length-take-le _ _ (line-within _ _ _ c.verdict_line.ensures c.in-Ok.is))

@@ -1,9 +1,6 @@
--- `checklist_cases::show_cases`: a case may seem to end behind the input.
-use Rattle.std.proofs.Common.{length, ◌≡◌, ◌+◌, ◌-◌, ◌≤◌}
+-- `checklist_cases::show_cases`: the input left grows shorter.
+use Rattle.std.proofs.Common.{length}
 use Rattle.checklist_cases.proofs.show_cases.Given as goal
 
-abbrev pub invariant-loop-at : goal.invariant-loop-at
-invariant-loop-at g l = (l.at ≤ length l.input + 65535) × (length l.out ≡ length l.initial.out)
-
-abbrev pub decreases-loop-at : goal.decreases-loop-at
-decreases-loop-at g l = length l.input - l.at
+abbrev pub decreases-loop-length : goal.decreases-loop-length
+decreases-loop-length g l = length l.rest

@@ -17,21 +17,21 @@ returns-then-log-ge-TOO_LONG c =
     let a = c.args in
     numbered above63 _ c.above_63.ensures (too_long a.log.now a.registers.now (omega arith))
 
-pub returns-in-Accepted : goal.returns-in-Accepted
-returns-in-Accepted c =
+pub returns-in-Ok : goal.returns-in-Ok
+returns-in-Ok c =
     let a = c.args in
     let v = c.check-verdict.ensures in
-    let e = sym (ap (λ (x : Checked). x.judged) v) ∙ ap judgement_outcome c.in-Accepted.is in
+    let e = sym (ap (λ (x : Checked). x.judged) v) ∙ ap judgement_outcome c.in-Ok.is in
     c.put_registers.ensures
     ∙ ap (λ (r : Registers). filled_number above63 (judged_answer accepted r a.registers.now)) (ap (λ (x : Checked). x.registers) v)
     ∙ sym (ap (filled_number above63) (verdict-answered a.log.now a.registers.now accepted (omega arith) e))
 
-pub returns-in-Refused : goal.returns-in-Refused
-returns-in-Refused c =
+pub returns-in-Err : goal.returns-in-Err
+returns-in-Err c =
     let a = c.args in
-    let n = number_of c.in-Refused.refusal in
-    let offset = c.in-Refused.offset in
-    let e = sym (ap (λ (x : Checked). x.judged) c.check-verdict.ensures) ∙ ap judgement_outcome c.in-Refused.is in
+    let n = number_of c.in-Err.fault.refusal in
+    let offset = c.in-Err.fault.offset in
+    let e = sym (ap (λ (x : Checked). x.judged) c.check-verdict.ensures) ∙ ap judgement_outcome c.in-Err.is in
     let whole : offset % 2 ^ 55 ≡ offset = omega (arith, (check-refusals a.log.now n offset e).inside) in
     numbered above63 _ (c.above_63_at.ensures ∙ ap (λ (k : ℕ). above63 + with_offset n k) whole)
     (sym (verdict-answered a.log.now a.registers.now (refused_at n offset) (omega arith) e))

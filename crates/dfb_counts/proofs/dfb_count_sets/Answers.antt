@@ -18,22 +18,22 @@ returns-then-log-ge-TOO_LONG c =
     ap (λ (n : ℕ). lists_left n a.counts.now a.registers.now) c.above_63.ensures
     ∙ ap count_number (too_long a.log.now a.counts.now a.registers.now (omega arith))
 
-pub returns-in-End : goal.returns-in-End
-returns-in-End c =
+pub returns-in-Ok : goal.returns-in-Ok
+returns-in-Ok c =
     let a = c.args in
     let s = c.count_sets-count.ensures in
-    let e = sym (ap (λ (x : SetsCounted). x.ending) s) ∙ ap ending_outcome c.in-End.is in
+    let e = sym (ap (λ (x : SetsCounted). x.ending) s) ∙ ap ending_outcome c.in-Ok.is in
     c.put_counted.ensures
     ∙ ap (λ (t : Tally). count_number (tally_put t a.counts.now a.registers.now)) (ap (λ (x : SetsCounted). x.tally) s)
     ∙ sym (ap count_number (ending-answered a.log.now a.counts.now a.registers.now (end _) (omega arith) e))
 
-pub returns-in-Refused : goal.returns-in-Refused
+pub returns-in-Err : goal.returns-in-Err
 unfolding sets_counted
-returns-in-Refused c =
+returns-in-Err c =
     let a = c.args in
-    let n = number_of c.in-Refused.refusal in
-    let offset = c.in-Refused.offset in
-    let e = sym (ap (λ (x : SetsCounted). x.ending) c.count_sets-count.ensures) ∙ ap ending_outcome c.in-Refused.is in
+    let n = number_of c.in-Err.fault.refusal in
+    let offset = c.in-Err.fault.offset in
+    let e = sym (ap (λ (x : SetsCounted). x.ending) c.count_sets-count.ensures) ∙ ap ending_outcome c.in-Err.is in
     let whole : offset % 2 ^ 55 ≡ offset = omega (arith, walk-offsets a.log.now n offset e) in
     ap (λ (k : ℕ). lists_left k a.counts.now a.registers.now) (c.above_63_at.ensures ∙ ap (λ (k : ℕ). above63 + with_offset n k) whole)
     ∙ sym (ap count_number (ending-answered a.log.now a.counts.now a.registers.now (refused_at n offset) (omega arith) e))

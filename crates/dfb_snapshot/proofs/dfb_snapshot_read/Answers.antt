@@ -1,41 +1,51 @@
 -- `dfb_snapshot::dfb_snapshot_read` meets its contract: the list for the header is too short, or each arm is a case of the reading. Assumes
 -- nothing.
-use Prim.Native.Nat.{ℕ}
-use mathlib.Core.Path.{sym, ap, ◌∙◌}
+use Prim.Native.Nat.{ℕ, ◌+◌}
+use mathlib.Core.Path.{◌≡◌, sym, ap, ◌∙◌}
 use mathlib.Core.List.{List}
 use native.Mathlib.Omega.{arith}
-use Rattle.snapshot.specs.declared.PacketRead.{PacketRead}
-use Rattle.snapshot.specs.Calls.{ReadLeft, packet_outcome}
-use Rattle.dfb_snapshot.proofs.Calls.{read_short, read_left, left_by, read-long, read-few}
+use Rattle.std.specs.Prelude.{Option, Result}
+use Rattle.std.specs.Option.{unwrap_or}
+use Rattle.refusal.specs.declared.Refusal.{Refusal}
+use Rattle.refusal.specs.declared.Refusal.TheVariants.{WrongLength}
+use Rattle.refusal.specs.Number.{number_of}
+use Rattle.refusal.specs.Outcome.{answer_outcome}
+use Rattle.snapshot.specs.declared.Found.{Found}
+use Rattle.snapshot.specs.Calls.{header_found, ReadLeft}
+use Rattle.dfb_refusals.specs.Numbers.{above16}
+use Rattle.dfb_snapshot.proofs.Calls.{refusal_or2, first-refusal, read_short, read_left, left_by, read-long, read-few}
 use Rattle.dfb_snapshot.proofs.dfb_snapshot_read.Goals as goal
 
 pub returns-then-header-lt-HEADER : goal.returns-then-header-lt-HEADER
 returns-then-header-lt-HEADER c =
     let a = c.args in
-    ap (λ (n : ℕ). record { answer = n; header = a.header.now; samples = a.samples.now }) c.short_header.ensures
+    let first : number_of c.unwrap_or-refusal.result ≡ refusal_or2 (header_found a.packet.now) =
+    ap number_of (c.unwrap_or-refusal.ensures ∙ ap (λ (o : Option Refusal). unwrap_or o WrongLength) c.err.ensures.value)
+    ∙ first-refusal c.read_header.result ∙ ap refusal_or2 c.read_header.ensures in
+    ap (λ (n : ℕ). record { answer = n; header = a.header.now; samples = a.samples.now }) (c.above_16.ensures ∙ ap (λ (n : ℕ). above16 + n) first)
     ∙ read_short a.packet.now a.header.now a.samples.now (omega arith)
 
 pub overflow_cast-result : goal.overflow_cast-result
 overflow_cast-result c =
     let a = c.args in
-    omega (arith, read-few a.packet.now a.samples.now _ (sym (ap (λ (l : ReadLeft). l.answer) c.read_packet.ensures) ∙ ap packet_outcome c.in-Packet.is))
+    omega (arith, read-few a.packet.now a.samples.now c.in-Ok.found (sym (ap (λ (l : ReadLeft). l.answer) c.read_packet.ensures) ∙ ap answer_outcome c.in-Ok.is))
 
-pub returns-in-Packet : goal.returns-in-Packet
-returns-in-Packet c =
+pub returns-in-Ok : goal.returns-in-Ok
+returns-in-Ok c =
     let a = c.args in
     let last = c.read_packet.new.samples in
-    ap (λ (l : List ℕ). record { answer = c.in-Packet.n; header = l; samples = last }) c.store.ensures
-    ∙ ap (λ (r : PacketRead). read_left a.header.now last (packet_outcome r)) (sym c.in-Packet.is)
+    ap (λ (l : List ℕ). record { answer = c.in-Ok.found.count; header = l; samples = last }) c.store.ensures
+    ∙ ap (λ (r : Result Found Refusal). read_left a.header.now last (answer_outcome r)) (sym c.in-Ok.is)
     -- what reading the packet left is what the call leaves
     ∙ ap (left_by a.header.now) c.read_packet.ensures
     ∙ read-long a.packet.now a.header.now a.samples.now (omega arith)
 
-pub returns-in-Refused : goal.returns-in-Refused
-returns-in-Refused c =
+pub returns-in-Err : goal.returns-in-Err
+returns-in-Err c =
     let a = c.args in
     let last = c.read_packet.new.samples in
-    ap (λ (n : ℕ). record { answer = n; header = a.header.now; samples = last }) c.above_16.ensures
-    ∙ ap (λ (r : PacketRead). read_left a.header.now last (packet_outcome r)) (sym c.in-Refused.is)
+    ap (λ (n : ℕ). record { answer = n; header = a.header.now; samples = last }) c.above_16-in-Err.ensures
+    ∙ ap (λ (r : Result Found Refusal). read_left a.header.now last (answer_outcome r)) (sym c.in-Err.is)
     -- what reading the packet left is what the call leaves
     ∙ ap (left_by a.header.now) c.read_packet.ensures
     ∙ read-long a.packet.now a.header.now a.samples.now (omega arith)

@@ -6,9 +6,9 @@ use mathlib.Core.Bool.{true, false}
 use mathlib.Core.List.{List}
 use lib.IntN.{ℤ}
 use native.Mathlib.Omega.{arith}
-use borrow.Author.Tests.{not-true, not-false}
-use Rattle.refusal.specs.declared.Written.{Written}
-use Rattle.refusal.specs.Outcome.{Filled, written_outcome, filled}
+use Rattle.std.specs.Prelude.{Result}
+use Rattle.refusal.specs.declared.Refusal.{Refusal}
+use Rattle.refusal.specs.Outcome.{Filled, filled, answer_outcome}
 use Rattle.snapshot.specs.declared.Header.{Header}
 use Rattle.snapshot.specs.Calls.{packet_written}
 use Rattle.dfb_refusals.specs.Numbers.{above16, outcome_number}
@@ -22,11 +22,11 @@ pub returns-then-not-is_header : goal.returns-then-not-is_header
 unfolding write_call
 returns-then-not-is_header c =
     let a = c.args in
-    let other : header_taken a.header.now ≡ false = sym c.is_header.ensures ∙ not-true _ c.if-not-is_header.true-raw in
+    let other : header_taken a.header.now ≡ false = sym c.is_header.ensures ∙ c.if-not-is_header.true in
     simp other (ap (λ (n : ℕ). record { answer = n; buffer = a.packet.now }) c.above_16.ensures)
 
 -- the call wrote what the rule writes
-written : (numbers : List ℕ) (samples : List ℤ) (packet last : List ℕ) (w : Written) (h : Header) → header_taken numbers ≡ true → h ≡ header_of numbers →
+written : (numbers : List ℕ) (samples : List ℤ) (packet last : List ℕ) (w : Result ℕ Refusal) (h : Header) → header_taken numbers ≡ true → h ≡ header_of numbers →
     filled w last ≡ packet_written h samples packet → filled w last ≡ write_call numbers samples packet
 unfolding write_call
 written numbers samples packet last w h ten load wrote = simp ten (wrote ∙ ap (λ (g : Header). packet_written g samples packet) load)
@@ -35,21 +35,21 @@ pub overflow_cast-result : goal.overflow_cast-result
 overflow_cast-result c =
     let a = c.args in
     let few = written-few c.load.result a.samples.now a.packet.now _
-    (sym (ap (λ (f : Filled ℕ). f.answer) c.write_packet.ensures) ∙ ap written_outcome c.in-Count.is) in
+    (sym (ap (λ (f : Filled ℕ). f.answer) c.write_packet.ensures) ∙ ap answer_outcome c.in-Ok.is) in
     omega (arith, few)
 
-pub returns-in-Count : goal.returns-in-Count
-returns-in-Count c =
-    let ten = sym c.is_header.ensures ∙ not-false _ c.if-not-is_header.false-raw in
-    numbered above16 _ (sym (ap (λ (w : Written). outcome_number above16 (written_outcome w)) c.in-Count.is))
+pub returns-in-Ok : goal.returns-in-Ok
+returns-in-Ok c =
+    let ten = sym c.is_header.ensures ∙ c.if-not-is_header.false in
+    numbered above16 _ (sym (ap (λ (w : Result ℕ Refusal). outcome_number above16 (answer_outcome w)) c.in-Ok.is))
     (written c.args.header.now c.args.samples.now c.args.packet.now c.write_packet.new.packet c.write_packet.result c.load.result ten c.load.ensures c.write_packet.ensures)
 
-pub returns-in-Refused : goal.returns-in-Refused
-returns-in-Refused c =
-    let ten = sym c.is_header.ensures ∙ not-false _ c.if-not-is_header.false-raw in
+pub returns-in-Err : goal.returns-in-Err
+returns-in-Err c =
+    let ten = sym c.is_header.ensures ∙ c.if-not-is_header.false in
     numbered above16 _
-    (refused-number above16 c.in-Refused.refusal c.above_16-in-Refused.ensures (ap written_outcome (sym c.in-Refused.is)))
+    (refused-number above16 c.in-Err.refusal c.above_16-in-Err.ensures (ap answer_outcome (sym c.in-Err.is)))
     (written c.args.header.now c.args.samples.now c.args.packet.now c.write_packet.new.packet c.write_packet.result c.load.result ten c.load.ensures c.write_packet.ensures)
 
 pub load-requires : goal.load-requires
-load-requires c = sym c.is_header.ensures ∙ not-false _ c.if-not-is_header.false-raw
+load-requires c = sym c.is_header.ensures ∙ c.if-not-is_header.false

@@ -5,7 +5,7 @@ use Rattle.listing.proofs.Whole.{written-within}
 use Rattle.setlist_cases.proofs.show.Goals as goal
 
 pub slice_bounds-print-end : goal.slice_bounds-print-end
-slice_bounds-print-end g c = written-within _ _ _ c.listing.ensures c.in-Count.is
+slice_bounds-print-end g c = written-within _ _ _ c.listing.ensures c.in-Ok.is
 
-pub slice_bounds-print-end-in-Count : goal.slice_bounds-print-end-in-Count
-slice_bounds-print-end-in-Count g c = sym (length-take-le _ _ (written-within _ _ _ c.listing.ensures c.in-Count.is))
+pub slice_bounds-print-end-in-Ok : goal.slice_bounds-print-end-in-Ok
+slice_bounds-print-end-in-Ok g c = sym (length-take-le _ _ (written-within _ _ _ c.listing.ensures c.in-Ok.is))

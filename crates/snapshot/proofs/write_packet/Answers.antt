@@ -9,10 +9,11 @@ use lib.Dec.{ltb, eqb}
 use lib.ListN.{length, take, drop, length-take, length-drop}
 use Rattle.lists.specs.Tables.{overwrite}
 use Rattle.refusal.specs.Outcome.{given, Filled}
-use Rattle.fields.specs.Samples.{sample_bytes}
 use Rattle.fields.proofs.Samples.{put-buffer}
+use Rattle.fields.specs.Samples.{sample_bytes}
 use Rattle.snapshot.specs.Packet.{sample_count, packet_length, in_range}
 use Rattle.snapshot.specs.Calls.{packet_written}
+use Rattle.snapshot.proofs.Packets.{components-le}
 use Rattle.snapshot.proofs.Buffers.{packet-put}
 use Rattle.snapshot.proofs.write_packet.Goals as goal
 
@@ -41,9 +42,15 @@ returns-then-packet-length c =
     let short : ltb (length a.packet.now) (20 + 2 * n) ≡ true = lt-ltb (length a.packet.now) (20 + 2 * n) (omega (arith, c.sample_count-count.ensures)) in
     simp (range, same, short)
 
-pub returns : goal.returns
+pub overflow_mul-length : goal.overflow_mul-length
+overflow_mul-length c = omega (arith, c.sample_count-count.ensures, components-le c.args.header.mask)
+
+pub overflow_add-length : goal.overflow_add-length
+overflow_add-length c = omega (arith, c.sample_count-count.ensures, components-le c.args.header.mask)
+
+pub returns-else-packet-length : goal.returns-else-packet-length
 unfolding packet_written
-returns c =
+returns-else-packet-length c =
     let a = c.args in
     let n = c.sample_count-count.result in
     let count = c.sample_count-count.ensures in

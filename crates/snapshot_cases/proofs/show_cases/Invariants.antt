@@ -1,9 +1,6 @@
--- `snapshot_cases::show_cases`: the cases lie within the input.
-use Rattle.std.proofs.Common.{length, ◌-◌, ◌≤◌}
+-- `snapshot_cases::show_cases`: each case takes bytes of what is left.
+use Rattle.std.proofs.Common.{length}
 use Rattle.snapshot_cases.proofs.show_cases.Given as goal
 
-abbrev pub invariant-loop-at : goal.invariant-loop-at
-invariant-loop-at g l = l.at ≤ length l.input
-
-abbrev pub decreases-loop-at : goal.decreases-loop-at
-decreases-loop-at g l = length l.input - l.at
+abbrev pub decreases-loop-case : goal.decreases-loop-case
+decreases-loop-case g l = length l.rest

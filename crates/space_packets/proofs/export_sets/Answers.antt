@@ -11,7 +11,8 @@ use Rattle.lists.specs.Tables.{overwrite}
 use Rattle.lists.proofs.Choices.{both}
 use Rattle.refusal.specs.Outcome.{given}
 use Rattle.space_packets.specs.Packet.{most_samples, packet_count, count_of, packets_bytes, packets_length}
-use Rattle.space_packets.specs.Calls.{Sent, are_sets, sets_exported}
+use Rattle.space_packets.specs.declared.Export.{Export}
+use Rattle.space_packets.specs.Calls.{are_sets, sets_exported}
 use Rattle.space_packets.proofs.Packets.{most-of}
 use Rattle.space_packets.proofs.export_sets.Goals as goal
 
@@ -68,4 +69,4 @@ returns c =
     let next : c.put_packets-next.result ≡ count_of a.first (packet_count n (most_samples a.words)) = done.0 ∙ ap (count_of a.first) packets-are in
     let written = done.1 ∙ ap (λ (m : ℕ). overwrite (packets_bytes a.apid a.first m a.samples.now) a.out.now) c.most_samples-most.ensures in
     simp (le-ltb 16383 a.first (omega arith), sets, room)
-    (ap₂ (λ (s : Sent) (l : List ℕ). record { answer = given s; out = l }) (ap₂ (λ (b m : ℕ). record { bytes = b; next = m }) bytes next) written)
+    (ap₂ (λ (s : Export) (l : List ℕ). record { answer = given s; out = l }) (ap₂ (λ (b m : ℕ). record { bytes = b; next = m }) bytes next) written)

@@ -7,8 +7,8 @@ use lib.IntN.{ℤ}
 use lib.ListN.{length, take, drop, length-take, length-drop}
 use Rattle.lists.specs.Tables.{overwrite}
 use Rattle.lists.proofs.Overwriting.{length-overwrite, overwrite-all, overwrite-part}
-use Rattle.refusal.specs.Outcome.{Filled}
 use Rattle.fields.specs.Samples.{sample_bytes}
+use Rattle.refusal.specs.Outcome.{Filled}
 use Rattle.fields.proofs.Samples.{bytes-length, put-buffer}
 use Rattle.space_packets.specs.Packet.{primary_bytes, stated, packet_bytes}
 use Rattle.space_packets.proofs.Headers.{primary-length}

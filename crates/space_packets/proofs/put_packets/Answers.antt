@@ -55,9 +55,9 @@ pub put_packet-requires-in-loop-p : goal.put_packet-requires-in-loop-p
 put_packet-requires-in-loop-p c =
     let a = c.args in
     let l = c.loop-p in
-    let m = c.next_samples-n.result in
+    let m = c.min-n.result in
     let at : Place (length a.samples.now) a.most l.p m (length a.out.now) =
-    place (length a.samples.now) a.most l.p m (length a.out.now) c.requires.1 (omega arith) c.requires.4 c.next_samples-n.ensures in
+    place (length a.samples.now) a.most l.p m (length a.out.now) c.requires.1 (omega arith) c.requires.4 c.min-n.ensures in
     let part : length (take (l.p * a.most + m - l.p * a.most) (drop (l.p * a.most) a.samples.now)) ≡ m =
     ap (λ (x : List ℤ). length x) (range-samples a.most l.p m _ a.samples.now at) ∙ range_length a.most l.p m _ a.samples.now at in
     let s = 6 * l.p + 2 * (l.p * a.most) in
@@ -72,9 +72,9 @@ pub loop-p-preserved : goal.loop-p-preserved
 loop-p-preserved c =
     let a = c.args in
     let l = c.loop-p in
-    let m = c.next_samples-n.result in
+    let m = c.min-n.result in
     let at : Place (length a.samples.now) a.most l.p m (length a.out.now) =
-    place (length a.samples.now) a.most l.p m (length a.out.now) c.requires.1 (omega arith) c.requires.4 c.next_samples-n.ensures in
+    place (length a.samples.now) a.most l.p m (length a.out.now) c.requires.1 (omega arith) c.requires.4 c.min-n.ensures in
     let s = 6 * l.p + 2 * (l.p * a.most) in
     let part = take (l.p * a.most + m - l.p * a.most) (drop (l.p * a.most) a.samples.now) in
     let put = c.put_packet-in-loop-p.new.out in

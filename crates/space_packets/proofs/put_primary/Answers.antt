@@ -1,42 +1,15 @@
--- `space_packets::put_primary` meets its contract: six stores leave the header's bytes. Assumes nothing.
-use Prim.Native.Nat.{ℕ, ◌+◌, ◌*◌, ◌/◌, ◌%◌}
-use mathlib.Core.Path.{sym, ap, ◌∙◌}
-use mathlib.Core.List.{List, [], ◌∷◌}
-use native.Mathlib.Omega.{arith}
-use lib.ListN.{length-set}
-use lib.Seq.{sets-eq}
-use Rattle.lists.specs.Tables.{overwrite}
-use Rattle.space_packets.proofs.Headers.{primary-bytes}
+-- `space_packets::put_primary` meets its contract: the bytes of three times 16 bits. Assumes nothing.
+use Prim.Native.Nat.{ℕ}
+use mathlib.Core.Path.{◌≡◌, sym, ap₂, ◌∙◌}
+use mathlib.Core.List.{List, ◌++◌}
+use lib.ListN.{drop}
+use Rattle.space_packets.specs.Packet.{primary_bytes}
+use Rattle.space_packets.proofs.Headers.{primary-length, primary-bytes}
 use Rattle.space_packets.proofs.put_primary.Goals as goal
 
 pub returns : goal.returns
 returns c =
-    let first = c in
-    let a = first.args in
-    let p = a.primary in
-    sets-eq
-    ((p.version * 32 + p.kind * 16 + p.secondary * 8 + p.apid / 256) ∷ p.apid % 256 ∷ (p.flags * 64 + p.count / 256) ∷ p.count % 256 ∷ p.length / 256
-    ∷ p.length % 256 ∷ [])
-    a.packet.now 0 first.requires.1
-    ∙ ap (λ (l : List ℕ). overwrite l a.packet.now) (sym (primary-bytes p first.requires.0))
-
-pub bounds-packet-1 : goal.bounds-packet-1
-bounds-packet-1 c = simp length-set (omega arith)
-
-pub overflow_add-packet-2 : goal.overflow_add-packet-2
-overflow_add-packet-2 c = omega (arith, c.requires.0.1.1.1.1)
-
-pub bounds-packet-2 : goal.bounds-packet-2
-bounds-packet-2 c = simp length-set (omega arith)
-
-pub bounds-packet-3 : goal.bounds-packet-3
-bounds-packet-3 c = simp length-set (omega arith)
-
-pub bounds-packet-4 : goal.bounds-packet-4
-bounds-packet-4 c = simp length-set (omega arith)
-
-pub bounds-packet-5 : goal.bounds-packet-5
-bounds-packet-5 c = simp length-set (omega arith)
-
-pub shape_of-packet : goal.shape_of-packet
-shape_of-packet c = simp length-set
+    let p = c.args.primary in
+    let bytes : c.copy_from_slice.new.self ≡ primary_bytes p =
+    c.copy_from_slice.ensures.after ∙ rw (c.to_be_bytes.ensures, c.to_be_bytes-2.ensures, c.to_be_bytes-3.ensures) (sym (primary-bytes p c.requires.0)) in
+    ap₂ (λ (l : List ℕ) (n : ℕ). l ++ drop n c.args.packet.now) bytes (sym (primary-length p))

@@ -1,12 +1,14 @@
 -- `space_packets::read_header` meets its contract: the tests and the words of a set pick the case of the rule. Assumes nothing.
-use Prim.Native.Nat.{◌-◌}
+use Prim.Native.Nat.{ℕ, ◌-◌, ◌<◌}
 use mathlib.Core.Path.{◌≡◌, refl, sym, ap, ◌∙◌}
+use mathlib.Core.List.{List}
 use native.Mathlib.Omega.{arith}
 use borrow.Author.Tests.{lt-ltb, le-ltb}
 use lib.ListN.{length}
+use Rattle.std.proofs.lemmas.Result.{err_from_is_err_and}
 use Rattle.refusal.specs.Number.{number_of}
-use Rattle.refusal.specs.Outcome.{given, refused}
-use Rattle.words.specs.Words.{set_words_outcome, set_size}
+use Rattle.refusal.specs.Outcome.{Outcome, given, refused}
+use Rattle.words.specs.Words.{set_size}
 use Rattle.space_packets.specs.declared.Primary.{Primary}
 use Rattle.space_packets.specs.Packet.{primary_in}
 use Rattle.space_packets.specs.Calls.{header_taken, header_found}
@@ -17,35 +19,38 @@ pub returns-then-packet-lt-HEADER : goal.returns-then-packet-lt-HEADER
 unfolding header_found
 returns-then-packet-lt-HEADER c = simp (lt-ltb (length c.args.packet.now) 6 (omega arith)) refl
 
-pub returns-then-primary-gt255 : goal.returns-then-primary-gt255
+-- the words of a set by the APID of the packet, which is a byte
+words-by : (packet : List ℕ) {p : Primary} {apid : ℕ} {o : Outcome ℕ} → o ≡ set_size apid → apid ≡ p.apid → p ≡ primary_in packet → set_size (primary_in packet).apid ≡ o
+words-by packet e same read = sym (e ∙ ap set_size same ∙ ap (λ (p : Primary). set_size p.apid) read)
+
+pub returns-in_default : goal.returns-in_default
 unfolding header_found
-returns-then-primary-gt255 c =
+returns-in_default c =
     let packet = c.args.packet.now in
+    let big : 255 < c.primary_in-primary.result.apid = omega (arith, c.in_default.ensures) in
     let over : set_size (primary_in packet).apid ≡ refused 4 =
-    set-over (primary_in packet).apid (omega (arith, c.if-primary-gt255.true, ap (λ (p : Primary). p.apid) c.primary_in-primary.ensures)) in
+    set-over (primary_in packet).apid (omega (arith, big, ap (λ (p : Primary). p.apid) c.primary_in-primary.ensures)) in
     simp (le-ltb (length packet) 6 (omega arith), over) refl
 
--- the words of a set by the APID of the packet
+pub returns-in_err-words : goal.returns-in_err-words
+unfolding header_found
+returns-in_err-words c =
+    let packet = c.args.packet.now in
+    let p = err_from_is_err_and c.from_residual.result c.from_residual.ensures.1 in
+    let other : set_size (primary_in packet).apid ≡ refused (number_of c.in_err-words.field-0.0) =
+    words-by c.args.packet.now c.in_err-words.ensures c.in-Ok.ensures.1 c.primary_in-primary.ensures in
+    simp (le-ltb (length packet) 6 (omega arith), other) (rw (p.1, p.2) refl)
+
 pub take_header-requires : goal.take_header-requires
 take_header-requires c =
-    let words : set_size (primary_in c.args.packet.now).apid ≡ given c.in-Count.words =
-    sym (c.set_words.ensures ∙ ap (λ (p : Primary). set_size p.apid) c.primary_in-primary.ensures) ∙ ap set_words_outcome c.in-Count.is in
-    set-sizes-fit _ _ words
+    set-sizes-fit _ _ (words-by c.args.packet.now c.in_ok-words.ensures c.in-Ok.ensures.1 c.primary_in-primary.ensures)
 
-pub returns-in-Count : goal.returns-in-Count
+pub returns : goal.returns
 unfolding header_found
-returns-in-Count c =
+returns c =
     let packet = c.args.packet.now in
-    let words : set_size (primary_in packet).apid ≡ given c.in-Count.words =
-    sym (c.set_words.ensures ∙ ap (λ (p : Primary). set_size p.apid) c.primary_in-primary.ensures) ∙ ap set_words_outcome c.in-Count.is in
+    let words : set_size (primary_in packet).apid ≡ given c.in_ok-words.words =
+    words-by c.args.packet.now c.in_ok-words.ensures c.in-Ok.ensures.1 c.primary_in-primary.ensures in
     simp (le-ltb (length packet) 6 (omega arith), words)
     (c.take_header.ensures
-    ∙ ap (λ (p : Primary). header_taken c.in-Count.words p (length packet - 6)) c.primary_in-primary.ensures)
-
-pub returns-in-Refused : goal.returns-in-Refused
-unfolding header_found
-returns-in-Refused c =
-    let packet = c.args.packet.now in
-    let other : set_size (primary_in packet).apid ≡ refused (number_of c.in-Refused.refusal) =
-    sym (c.set_words.ensures ∙ ap (λ (p : Primary). set_size p.apid) c.primary_in-primary.ensures) ∙ ap set_words_outcome c.in-Refused.is in
-    simp (le-ltb (length packet) 6 (omega arith), other) refl
+    ∙ ap (λ (p : Primary). header_taken c.in_ok-words.words p (length packet - 6)) c.primary_in-primary.ensures)

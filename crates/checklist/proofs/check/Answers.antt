@@ -1,0 +1,11 @@
+-- `checklist::check`: what was written lies within the output.
+use Rattle.std.proofs.Common.{sym}
+use Rattle.std.proofs.lemmas.List.{length-take-le}
+use Rattle.listing.proofs.Verdicts.{line-within}
+use Rattle.checklist.proofs.check.Goals as goal
+
+pub slice_bounds-write_all-end : goal.slice_bounds-write_all-end
+slice_bounds-write_all-end g c = line-within _ _ _ c.verdict_line.ensures c.in-Ok-verdict_line.is
+
+pub slice_bounds-write_all-end-2 : goal.slice_bounds-write_all-end-2
+slice_bounds-write_all-end-2 g c = sym (length-take-le _ _ (line-within _ _ _ c.verdict_line.ensures c.in-Ok-verdict_line.is))

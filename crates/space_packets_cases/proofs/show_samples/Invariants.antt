@@ -1,9 +1,0 @@
--- `space_packets_cases::show_samples`: from the first place on.
-use Rattle.std.proofs.Common.{◌-◌, ◌≤◌}
-use Rattle.space_packets_cases.proofs.show_samples.Given as goal
-
-abbrev pub invariant-loop-i : goal.invariant-loop-i
-invariant-loop-i g l = l.from ≤ l.i
-
-abbrev pub decreases-loop-i : goal.decreases-loop-i
-decreases-loop-i g l = l.to - l.i
