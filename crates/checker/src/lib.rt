@@ -41,8 +41,8 @@ struct Cursor {
 fn is_within_period(registers: Registers) -> bool
     ensures { result ≡ within_period registers }
 {
-    settings::enabled_count(registers) == 0
-        || settings::averaged_spectra(registers) <= settings::period_ticks(registers)
+    settings::averaged_spectra(registers) <= settings::period_ticks(registers)
+        || settings::enabled_count(registers) == 0
 }
 
 // The refusal for a read that was refused: a word of an APID that is not kept is a word all the same, and 18 comes before 4.
