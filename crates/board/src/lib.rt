@@ -45,9 +45,15 @@ fn check_sound(state: State, running: bool, totals: &[u64]) -> Result<(), Refusa
     requires { running ≡ running_of state.registers }
     ensures { answer_outcome result ≡ soundness state totals.now }
 {
+    if totals.len() != State::TOTALS {
+        return Err(Refusal::WrongLength);
+    }
+    // The totals last: they take the longest.
     let spectra = spectra_held(state.registers, running, state.phase);
-    let within = totals_within(state.registers, totals, spectra)?;
-    if state.registers.is_sound() && is_period_sound(state, running) && within {
+    if state.registers.is_sound()
+        && is_period_sound(state, running)
+        && totals_within(state.registers, totals, spectra)?
+    {
         Ok(())
     } else {
         Err(Refusal::UnsoundState)

@@ -5,15 +5,25 @@ use mathlib.Core.Path.{◌≡◌, refl, sym, ap, subst, ◌∙◌}
 use Prim.Native.Nat.{ℕ, zero, suc, ◌+◌, ◌-◌, ◌≤◌, ◌<◌}
 use native.Mathlib.Omega.{arith}
 use lib.ListN.{length}
+use Rattle.std.specs.Prelude.{Option, Result, Ok, Err}
+use Rattle.refusal.specs.declared.Refusal.{Refusal}
+use Rattle.refusal.specs.Number.{number_of}
 use Rattle.refusal.specs.Outcome.{Outcome, given, refused}
+use Rattle.refusal.proofs.Outcomes.{given-refused}
 use Rattle.board_log.specs.declared.Record.{Record}
-use Rattle.board_log.specs.Cursor.{Found, found, end, read_at}
+use Rattle.board_log.specs.declared.Entry.{Entry}
+use Rattle.board_log.specs.Cursor.{Found, found, end, read_outcome, read_at}
 use Rattle.board_log.proofs.Moves.{found-parts}
+use Rattle.board_log.proofs.Tags.{NoRecord, without-record}
 use Rattle.checker.specs.declared.Standing.{Standing}
 use Rattle.checker.specs.Check.{refused_at, Checked, Stepped, next, last, check_record, after_record, judged_at, record_step, read_step, step_at, checked_on, check_steps, check_from}
+use Rattle.checker.specs.Private.{Kept, kept_left, kept_by, kept, judgement_without_record}
 
 no_step : {v : Checked} {after : ℕ} {later : Standing} → last v ≡ next after later → ⊥
 no_step e = let z : ◌≡◌ {A = ℕ} 0 1 = cc in omega arith
+
+no_given : {n : ℕ} {t : Unit {0}} {s s' : Standing} → ◌≡◌ {A = Kept} (record { answer = refused n; standing = s }) (record { answer = given t; standing = s' }) → ⊥
+no_given {n = n} {t = t} e = given-refused t n (sym (ap (λ (k : Kept). k.answer) e))
 
 record After (o : Outcome (Unit {0})) (s : Standing) (r : Record) (place after : ℕ) (later : Standing) : Type 0 where
   kept : o ≡ given tt
@@ -52,7 +62,10 @@ step-passes log at s after later = by (read_at log at) refl
     by (given end) e h = absurd (no_step h)
     by (refused n) e h = absurd (no_step h)
 
--- the step at a place by what was read there: a record that is refused, and one that is kept
+-- the step at a place by what was read there: no record, a record that is refused, and one that is kept
+pub step-without : (at : ℕ) (s : Standing) (q : Result (Option Entry) Refusal) → NoRecord q → read_step (read_outcome q) at s ≡ judged_at s (judgement_without_record (read_outcome q) s.registers at)
+step-without at s = without-record (λ (o : Outcome Found). read_step o at s ≡ judged_at s (judgement_without_record o s.registers at)) refl (λ n. refl)
+
 module _ (log : List ℕ) (at : ℕ) (s : Standing) (r : Record) (after : ℕ) (e : read_at log at ≡ given (found r after)) where
   step-found : step_at log at s ≡ record_step (check_record s r) s r at after
   step-found = ap (λ (o : Outcome Found). read_step o at s) e
@@ -62,6 +75,24 @@ module _ (log : List ℕ) (at : ℕ) (s : Standing) (r : Record) (after : ℕ) (
 
   pub step_kept : check_record s r ≡ given tt → step_at log at s ≡ next after (after_record s r)
   step_kept k = step-found ∙ ap (λ (o : Outcome (Unit {0})). record_step o s r at after) k
+
+-- a record that was refused, and one that was taken, by what is kept
+module _ (s : Standing) (r : Record) (x : Result (Unit {0}) Refusal) (later : Standing) where
+  pub kept-refused : (f : Refusal) → kept_left x later ≡ kept s r → x ≡ Err f → (check_record s r ≡ refused (number_of f)) × (later ≡ s)
+  kept-refused f e k = by (check_record s r) refl (sym (ap (λ (y : Result (Unit {0}) Refusal). kept_left y later) k) ∙ e)
+    where
+      by : (o : Outcome (Unit {0})) → check_record s r ≡ o → record { answer = refused (number_of f); standing = later } ≡ kept_by o s (after_record s r)
+          → (check_record s r ≡ refused (number_of f)) × (later ≡ s)
+      by (given t) g h = absurd (no_given h)
+      by (refused n) g h = (g ∙ sym (ap (λ (y : Kept). y.answer) h), ap (λ (y : Kept). y.standing) h)
+
+  pub kept-given : (t : Unit {0}) → kept_left x later ≡ kept s r → x ≡ Ok t → (check_record s r ≡ given tt) × (later ≡ after_record s r)
+  kept-given t e k = by (check_record s r) refl (sym (ap (λ (y : Result (Unit {0}) Refusal). kept_left y later) k) ∙ e)
+    where
+      by : (o : Outcome (Unit {0})) → check_record s r ≡ o → record { answer = given t; standing = later } ≡ kept_by o s (after_record s r)
+          → (check_record s r ≡ given tt) × (later ≡ after_record s r)
+      by (given u) g h = (g, ap (λ (y : Kept). y.standing) h)
+      by (refused n) g h = absurd (no_given (sym h))
 
 -- one step
 pub steps_next : (k : ℕ) (log : List ℕ) (at : ℕ) (s : Standing) (after : ℕ) (later : Standing) → step_at log at s ≡ next after later

@@ -1,23 +1,29 @@
 -- For contracts of private functions only.
-use Rattle.std.specs.Prelude.{Option, Some, None, Result, Ok, Err}
+use Rattle.std.specs.Prelude.{ℕ, Result}
 use Rattle.refusal.specs.declared.Refusal.{Refusal}
-use Rattle.refusal.specs.Number.{number_of}
-use Rattle.refusal.specs.Outcome.{Outcome, given, refused}
+use Rattle.refusal.specs.Outcome.{Outcome, given, refused, answer_outcome}
+use Rattle.registers.specs.declared.Registers.{Registers}
 use Rattle.board_log.specs.declared.Record.{Record}
+use Rattle.board_log.specs.Cursor.{Found}
 use Rattle.checker.specs.declared.Standing.{Standing}
-use Rattle.checker.specs.declared.Cursor.{Cursor}
-use Rattle.checker.specs.Check.{accepted, refused_at, Stepped, next, check_record, after_record, judged_at}
+use Rattle.checker.specs.Check.{Judged, refused_at, check_record, after_record, end_judgement, refusal_of_read}
 
--- what a record leaves, or its refusal
-abbrev pub after_check : Outcome (Unit {0}) → Standing → Outcome Standing
-after_check (given kept) later = given later
-after_check (refused n) later = refused n
+-- what a record leaves: a refusal leaves what stood before it
+pub record Kept : Type 0 where
+  pub answer : Outcome (Unit {0})
+  pub standing : Standing
 
-abbrev pub kept_outcome : Standing → Record → Outcome Standing
-kept_outcome s r = after_check (check_record s r) (after_record s r)
+abbrev pub kept_left : Result (Unit {0}) Refusal → Standing → Kept
+kept_left r s = record { answer = answer_outcome r; standing = s }
 
--- the step at a cursor
-abbrev pub step_outcome : Cursor → Result (Option Cursor) Refusal → Stepped
-step_outcome c (Ok (Some later)) = next later.at later.standing
-step_outcome c (Ok None) = judged_at c.standing accepted
-step_outcome c (Err r) = judged_at c.standing (refused_at (number_of r) c.at)
+abbrev pub kept_by : Outcome (Unit {0}) → Standing → Standing → Kept
+kept_by (given k) before later = record { answer = given k; standing = later }
+kept_by (refused n) before later = record { answer = refused n; standing = before }
+
+abbrev pub kept : Standing → Record → Kept
+kept s r = kept_by (check_record s r) s (after_record s r)
+
+-- a read that gave no record
+abbrev pub judgement_without_record : Outcome Found → Registers → ℕ → Judged
+judgement_without_record (given f) r at = end_judgement r at
+judgement_without_record (refused n) r at = refused_at (refusal_of_read n) at

@@ -3,14 +3,15 @@
 #![tactic(auto)]
 
 ghost use Rattle.std.specs.Prelude.{◌≡◌, true};
-ghost use Rattle.refusal.specs.Outcome.{given, answer_outcome};
+ghost use Rattle.refusal.specs.Outcome.{given};
 ghost use Rattle.refusal.specs.Number.{number_of};
 ghost use Rattle.registers.specs.Access.{is_id};
 ghost use Rattle.board_log.specs.Format.{checked};
-ghost use Rattle.checker.specs.Check.{verdict_outcome, within_period, at_start, refusal_of_read, step_at, commands_checked};
-ghost use Rattle.checker.specs.Private.{kept_outcome, step_outcome};
+ghost use Rattle.board_log.specs.Cursor.{read_outcome};
+ghost use Rattle.checker.specs.Check.{judgement_outcome, verdict_outcome, within_period, at_start, refusal_of_read, commands_checked};
+ghost use Rattle.checker.specs.Private.{kept_left, kept, judgement_without_record};
 
-use board_log::{Command, Record};
+use board_log::{Command, Entry, Record};
 use refusal::{Fault, Refusal};
 use registers::Registers;
 
@@ -27,13 +28,6 @@ pub struct Verdict {
 struct Standing {
     second: u32,
     registers: Registers,
-}
-
-// A place in the list, and what the records before it leave.
-#[derive(Clone, Copy)]
-struct Cursor {
-    at: usize,
-    standing: Standing,
 }
 
 // Whether no processor is enabled or N is at most C.
@@ -66,24 +60,22 @@ impl Standing {
         }
     }
 
-    // After a command: refused by 20 where its register would not store exactly the value sent.
-    fn store(self, command: Command) -> Result<Standing, Refusal>
+    // Takes a command: refused by 20 where its register would not store exactly the value sent.
+    fn store(&mut self, command: Command) -> Result<(), Refusal>
         requires { is_id command.id ≡ true }
-        ensures { answer_outcome result ≡ kept_outcome self (Record.Command command) }
+        ensures { kept_left result self.new ≡ kept self.old (Record.Command command) }
     {
         let n = (command.id - Registers::FIRST_ID) as usize;
-        let stored = registers::stored_at(n, command.information);
-        if stored != command.information {
+        if registers::stored_at(n, command.information) != command.information {
             return Err(Refusal::ValueAltered);
         }
-        let mut next = self;
-        next.registers.value[n] = stored;
-        Ok(next)
+        self.registers.value[n] = command.information;
+        Ok(())
     }
 
-    // After a second mark: refused by 19 where it is smaller than the one before it, then by 21.
-    fn mark(self, second: u32) -> Result<Standing, Refusal>
-        ensures { answer_outcome result ≡ kept_outcome self (Record.SecondMark second) }
+    // Takes a second mark: refused by 19 where it is smaller than the one before it, then by 21.
+    fn mark(&mut self, second: u32) -> Result<(), Refusal>
+        ensures { kept_left result self.new ≡ kept self.old (Record.SecondMark second) }
     {
         if second < self.second {
             return Err(Refusal::SecondFalls);
@@ -91,13 +83,14 @@ impl Standing {
         if !is_within_period(self.registers) {
             return Err(Refusal::AveragesOverPeriod);
         }
-        Ok(Standing { second, ..self })
+        self.second = second;
+        Ok(())
     }
 
-    // After a record: refused by 18 where it is neither.
-    fn keep(self, entry: Record) -> Result<Standing, Refusal>
+    // Takes a record: refused by 18 where it is neither.
+    fn keep(&mut self, entry: Record) -> Result<(), Refusal>
         requires { checked entry ≡ given entry }
-        ensures { answer_outcome result ≡ kept_outcome self entry }
+        ensures { kept_left result self.new ≡ kept self.old entry }
     {
         match entry {
             Record::Command(command) => self.store(command),
@@ -107,52 +100,48 @@ impl Standing {
     }
 }
 
-impl Cursor {
-    // The cursor after the record at its place: none at the list's end.
-    fn next(self, log: &[u8]) -> Result<Option<Cursor>, Refusal>
-        ensures { step_outcome self result ≡ step_at log.now self.at self.standing }
-    {
-        let read = board_log::read_at(log, self.at).map_err(refusal_of_read)?;
-        let Some(entry) = read else {
-            if !is_within_period(self.standing.registers) {
-                return Err(Refusal::AveragesOverPeriod);
-            }
-            return Ok(None);
-        };
-        let standing = self.standing.keep(entry.record)?;
-        Ok(Some(Cursor {
-            at: entry.next,
-            standing,
-        }))
-    }
+// The judgement for a read at a place that gave no record: at the list's end by the registers, or its refusal.
+fn judge_without_record(
+    read: Result<Option<Entry>, Refusal>,
+    registers: Registers,
+    at: usize,
+) -> Result<(), Fault>
+    ensures { judgement_outcome result ≡ judgement_without_record (read_outcome read) registers at }
+{
+    let refusal = match read {
+        Err(refusal) => refusal_of_read(refusal),
+        Ok(_) if is_within_period(registers) => return Ok(()),
+        Ok(_) => Refusal::AveragesOverPeriod,
+    };
+    Err(Fault {
+        refusal,
+        offset: at,
+    })
 }
 
 // Checks a command list from reset. Refused per record by 9, 10, then 18, 1, 20 for a command, 19, 21 for a second mark; at the end by 21.
 pub fn check(log: &[u8]) -> Verdict
     ensures { verdict_outcome result ≡ commands_checked log.now }
 {
-    let mut cursor = Cursor {
-        at: 0,
-        standing: Standing::start(),
-    };
+    let mut at: usize = 0;
+    let mut standing = Standing::start();
     loop {
-        match cursor.next(log) {
-            Ok(Some(later)) => cursor = later,
-            Ok(None) => {
-                return Verdict {
-                    judgement: Ok(()),
-                    registers: cursor.standing.registers,
-                };
-            }
-            Err(refusal) => {
-                return Verdict {
-                    judgement: Err(Fault {
-                        refusal,
-                        offset: cursor.at,
-                    }),
-                    registers: cursor.standing.registers,
-                };
-            }
+        let read = board_log::read_at(log, at);
+        let Ok(Some(entry)) = read else {
+            return Verdict {
+                judgement: judge_without_record(read, standing.registers, at),
+                registers: standing.registers,
+            };
+        };
+        if let Err(refusal) = standing.keep(entry.record) {
+            return Verdict {
+                judgement: Err(Fault {
+                    refusal,
+                    offset: at,
+                }),
+                registers: standing.registers,
+            };
         }
+        at = entry.next;
     }
 }

@@ -4,13 +4,10 @@
 
 ghost use Rattle.std.specs.Prelude.{◌≡◌, ◌≤◌, length};
 ghost use Rattle.lists.specs.Tables.{overwrite};
-ghost use Rattle.refusal.specs.Outcome.{answer_outcome};
 ghost use Rattle.counting.specs.Writer.{command, mark, tick, set, report};
-ghost use Rattle.dfb_refusals.specs.Numbers.{above63, outcome_number};
 ghost use Rattle.dfb_counts.specs.Calls.{lists_left, call_left, counted_call, tally_put, count_answer, count_number};
 ghost use Rattle.dfb_counts.specs.Private.{tally_loaded};
 
-use counting::Counted;
 use counts::{Counts, Tally};
 use refusal::Refusal;
 use registers::Registers;
@@ -22,31 +19,30 @@ fn load(counts: &[u64], registers: &[u16]) -> Option<Tally>
     if counts.len() != Counts::LENGTH || registers.len() != Registers::COUNT {
         return None;
     }
-    let mut tally = Tally::empty();
-    tally.counts.value.copy_from_slice(counts);
-    tally.registers.value.copy_from_slice(registers);
-    Some(tally)
+    Some(Tally {
+        counts: Counts {
+            value: std::array::from_fn(|n| counts[n]),
+        },
+        registers: Registers {
+            value: std::array::from_fn(|n| registers[n]),
+        },
+    })
 }
 
-// Writes counts and registers to the fronts of the lists.
-fn put(tally: Tally, counts: &mut [u64], registers: &mut [u16])
-    requires counts_room { 7 ≤ length counts.old }
-    requires registers_room { 7 ≤ length registers.old }
-    ensures counted { counts.new ≡ overwrite tally.counts.value counts.old }
-    ensures held { registers.new ≡ overwrite tally.registers.value registers.old }
+// Writes the seven counts to the front of the list.
+fn put_counts(counts: Counts, list: &mut [u64])
+    requires { 7 ≤ length list.old }
+    ensures { list.new ≡ overwrite counts.value list.old }
 {
-    counts[..Counts::LENGTH].copy_from_slice(&tally.counts.value);
-    registers[..Registers::COUNT].copy_from_slice(&tally.registers.value);
+    list[..Counts::LENGTH].copy_from_slice(&counts.value);
 }
 
-// Writes what a call leaves to the two lists of seven; answers the number of its answer.
-fn put_call(done: Counted, counts: &mut [u64], registers: &mut [u16]) -> u64
-    requires seven_counts { length counts.old ≡ 7 }
-    requires seven_registers { length registers.old ≡ 7 }
-    ensures { lists_left result counts.new registers.new ≡ lists_left (outcome_number above63 (answer_outcome done.answer)) done.tally.counts.value done.tally.registers.value }
+// Writes the seven registers to the front of the list.
+fn put_registers(registers: Registers, list: &mut [u16])
+    requires { 7 ≤ length list.old }
+    ensures { list.new ≡ overwrite registers.value list.old }
 {
-    put(done.tally, counts, registers);
-    dfb_log::written_63(done.answer)
+    list[..Registers::COUNT].copy_from_slice(&registers.value);
 }
 
 // Appends a command; answers the new number of bytes used. Refused by 2 for the lists' lengths, then 3, 1, 2.
@@ -65,7 +61,8 @@ pub extern "C" fn dfb_counted_command(
         return dfb_refusals::above_63(Refusal::WrongLength);
     };
     let done = counting::command(log, used, tally, id, information);
-    put_call(done, counts, registers)
+    put_registers(done.tally.registers, registers);
+    dfb_log::written_63(done.answer)
 }
 
 // Appends a second mark; answers as above. Refused by 2 for the lists' lengths, then 3, 2.
@@ -83,7 +80,7 @@ pub extern "C" fn dfb_counted_mark(
         return dfb_refusals::above_63(Refusal::WrongLength);
     };
     let done = counting::mark(log, used, tally, seconds);
-    put_call(done, counts, registers)
+    dfb_log::written_63(done.answer)
 }
 
 // Appends a tick; answers as above. Refused by 2 for the lists' lengths, then 3, 2.
@@ -100,7 +97,7 @@ pub extern "C" fn dfb_counted_tick(
         return dfb_refusals::above_63(Refusal::WrongLength);
     };
     let done = counting::tick(log, used, tally);
-    put_call(done, counts, registers)
+    dfb_log::written_63(done.answer)
 }
 
 // Appends a waveform set; answers as above. Refused by 2 for the lists' lengths, then 3, 4, 5, 2.
@@ -119,7 +116,8 @@ pub extern "C" fn dfb_counted_set(
         return dfb_refusals::above_63(Refusal::WrongLength);
     };
     let done = counting::set(log, used, tally, apid, samples);
-    put_call(done, counts, registers)
+    put_counts(done.tally.counts, counts);
+    dfb_log::written_63(done.answer)
 }
 
 // Appends a SPEC set; answers as above. Refused by 2 for the lists' lengths, then 3, 6, 5, 7, 2.
@@ -137,7 +135,8 @@ pub extern "C" fn dfb_counted_report(
         return dfb_refusals::above_63(Refusal::WrongLength);
     };
     let done = counting::report(log, used, tally, words);
-    put_call(done, counts, registers)
+    put_counts(done.tally.counts, counts);
+    dfb_log::written_63(done.answer)
 }
 
 // Writes counts and registers to the fronts of the lists; answers 0. Refused by 2.
@@ -147,7 +146,8 @@ fn put_counted(tally: Tally, counts: &mut [u64], registers: &mut [u16]) -> u64
     if counts.len() < Counts::LENGTH || registers.len() < Registers::COUNT {
         return dfb_refusals::above_63(Refusal::WrongLength);
     }
-    put(tally, counts, registers);
+    put_counts(tally.counts, counts);
+    put_registers(tally.registers, registers);
     0
 }
 

@@ -34,11 +34,14 @@ fn is_outside(bytes: usize, walk: &[u64]) -> bool
         || dfb_refusals::TOO_LONG as u64 <= walk[0]
 }
 
-// A register's 16 bits; of a wider number 0xFFFF, which no register stores.
+// A register's 16 bits; of a wider number 0xFFFF, which no register stores. With a match the compiler narrows several at a time.
 fn narrow(value: u64) -> u16
     ensures { result ≡ narrowed value }
 {
-    u16::try_from(value).unwrap_or(0xFFFF)
+    match u16::try_from(value) {
+        Ok(register) => register,
+        Err(_) => 0xFFFF,
+    }
 }
 
 // The walk of nine numbers.

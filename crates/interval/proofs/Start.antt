@@ -26,7 +26,7 @@ ok_or-some r (Some p) h = cc
 
 module _ (index : List ℕ) where
   -- something is greater than 0
-  some : (place top : ℕ) → Best (length index) (criterion index) (length index) place top → 0 < top → start_of index ≡ place
+  some : {n : ℕ} (place top : ℕ) → Best n (criterion index) (length index) place top → 0 < top → start_of index ≡ place
   some place top b h =
       let e = (b.here h).1 in
       lowest-at (length index) (is_greatest index) place (b.here h).0
@@ -35,11 +35,11 @@ module _ (index : List ℕ) where
       all_to-false (λ i. leb (criterion index i) (criterion index j)) (length index) place (b.here h).0
       (lt-leb (criterion index place) (criterion index j) (omega (arith, e, b.before h j l))))
 
-  zero : (place top : ℕ) → Best (length index) (criterion index) (length index) place top → top ≡ 0 → all_zero index ≡ true
+  zero : {n : ℕ} (place top : ℕ) → Best n (criterion index) (length index) place top → top ≡ 0 → all_zero index ≡ true
   zero place top b z =
       all_to-of (length index) (λ i. eqb (criterion index i) 0) (λ i l. eq-eqb (criterion index i) 0 (omega (arith, b.most i l)))
 
-  pub start-found : (place top : ℕ) → Best (length index) (criterion index) (length index) place top →
+  pub start-found : {n : ℕ} (place top : ℕ) → Best n (criterion index) (length index) place top →
       cond (all_zero index) None (Some (start_of index)) ≡ cond (ltb 0 top) (Some place) None
   start-found place top b =
       by_cases (ltb 0 top)

@@ -1,9 +1,9 @@
 // The interval of Burst 1 blocks to send next (02, ticket 11; source document 004, section 3.3).
 #![tactic(auto)]
 
-ghost use Rattle.std.specs.Prelude.{◌≡◌, cond, ◌&&◌, ◌≤◌, ◌<◌, length, ltb, Some, None};
+ghost use Rattle.std.specs.Prelude.{◌≡◌, cond, ◌&&◌, ◌+◌, ◌≤◌, ◌<◌, length, leb, ltb, Some, None};
 ghost use Rattle.refusal.specs.Outcome.{answer_outcome};
-ghost use Rattle.interval.specs.Interval.{all_zero, start_of, joins, blocks, growing, try_older, try_newer, grown, interval_outcome};
+ghost use Rattle.interval.specs.Interval.{criterion, all_zero, start_of, joins, blocks, growing, try_older, try_newer, grown, interval_outcome};
 
 use refusal::Refusal;
 
@@ -38,13 +38,19 @@ struct Course<'a> {
 }
 
 impl Course<'_> {
-    // Block i joins, if there is one: its criterion plus the bonus is at least that of the start.
+    // A criterion passes: with the bonus it is at least that of the start.
+    fn passes(&self, neighbour: u32) -> bool
+        ensures { result ≡ leb (criterion self.now.index.now self.now.start) (neighbour + self.now.bonus) }
+    {
+        u64::from(self.index[self.start]) <= u64::from(neighbour) + u64::from(self.bonus)
+    }
+
+    // Block i joins, if there is one: its criterion passes.
     fn joins(&self, i: usize) -> bool
         ensures { result ≡ (ltb i (length self.now.index.now) && joins self.now.index.now self.now.bonus self.now.start i) }
     {
-        let least = self.index[self.start];
         match self.index.get(i) {
-            Some(criterion) => u64::from(least) <= u64::from(*criterion) + u64::from(self.bonus),
+            Some(criterion) => self.passes(*criterion),
             None => false,
         }
     }
@@ -58,43 +64,45 @@ impl Course<'_> {
         g.last - g.first + 1 < self.limit as usize
     }
 
+    // The older side is asked first: after `older || newer` the compiler tests each of them again.
     fn is_growing(&self, g: Growing) -> bool
         requires first_le_last { g.first ≤ g.last }
         requires last_bound { g.last < 16000 }
         ensures { result ≡ growing self.now.limit g }
     {
-        (g.older || g.newer) && self.is_below(g)
+        if g.older {
+            self.is_below(g)
+        } else {
+            g.newer && self.is_below(g)
+        }
     }
 
-    fn try_older(&self, g: Growing) -> Growing
-        requires first_le_last { g.first ≤ g.last }
-        requires last_bound { g.last < length self.now.index.now }
-        ensures { result ≡ try_older self.now.index.now self.now.bonus self.now.limit self.now.start g }
+    fn try_older(&self, g: &mut Growing)
+        requires first_le_last { g.old.first ≤ g.old.last }
+        requires last_bound { g.old.last < length self.now.index.now }
+        ensures { g.new ≡ try_older self.now.index.now self.now.bonus self.now.limit self.now.start g.old }
     {
-        if !g.older || !self.is_below(g) {
-            return g;
+        if !g.older || !self.is_below(*g) {
+            return;
         }
         match g.first.checked_sub(1) {
-            Some(first) if self.joins(first) => Growing { first, ..g },
-            _ => Growing { older: false, ..g },
+            Some(first) if self.passes(self.index[first]) => g.first = first,
+            _ => g.older = false,
         }
     }
 
-    fn try_newer(&self, g: Growing) -> Growing
-        requires first_le_last { g.first ≤ g.last }
-        requires last_bound { g.last < length self.now.index.now }
-        ensures { result ≡ try_newer self.now.index.now self.now.bonus self.now.limit self.now.start g }
+    fn try_newer(&self, g: &mut Growing)
+        requires first_le_last { g.old.first ≤ g.old.last }
+        requires last_bound { g.old.last < length self.now.index.now }
+        ensures { g.new ≡ try_newer self.now.index.now self.now.bonus self.now.limit self.now.start g.old }
     {
-        if !g.newer || !self.is_below(g) {
-            return g;
+        if !g.newer || !self.is_below(*g) {
+            return;
         }
         if self.joins(g.last + 1) {
-            Growing {
-                last: g.last + 1,
-                ..g
-            }
+            g.last += 1;
         } else {
-            Growing { newer: false, ..g }
+            g.newer = false;
         }
     }
 
@@ -113,7 +121,8 @@ impl Course<'_> {
             if !self.is_growing(g) {
                 break;
             }
-            g = self.try_newer(self.try_older(g));
+            self.try_older(&mut g);
+            self.try_newer(&mut g);
         }
         g
     }
@@ -123,15 +132,15 @@ impl Course<'_> {
 fn greatest(index: &[u32]) -> Option<usize>
     ensures { result ≡ cond (all_zero index.now) None (Some (start_of index.now)) }
 {
-    let mut place = None;
+    let mut place = 0;
     let mut most = 0;
     for (i, criterion) in index.iter().enumerate() {
         if most < *criterion {
-            place = Some(i);
+            place = i;
             most = *criterion;
         }
     }
-    place
+    if most == 0 { None } else { Some(place) }
 }
 
 // Chooses the interval. Refusals in the order 2, 29, 26.

@@ -59,8 +59,8 @@ pub fn enabled_count(registers: Registers) -> usize
     ensures { result ≡ enabled_count registers }
 {
     (0..Registers::COUNT)
-        .filter(|n| enabled(registers, *n))
-        .count()
+        .map(|n| enabled(registers, n) as usize)
+        .sum()
 }
 
 // Whether some processor is enabled and N is at most C.

@@ -3,7 +3,7 @@
 use Rattle.std.proofs.Common.{◌≡◌, ◌∙◌, ◌+◌, ◌-◌, ℕ, true, false, cond, length, replicate, ltb, eqb, ap, arith, rules, eq-eqb, ne_eqb}
 use borrow.Author.Tests.{lt-ltb, le-ltb}
 use Rattle.settings.specs.Settings.{averaged_spectra, period_ticks}
-use Rattle.settings.proofs.Settings.{averaged-pos, period-le}
+use Rattle.settings.proofs.Settings.{averaged-pos, period-pos, period-le}
 use Rattle.refusal.proofs.Outcomes.{given-same, refused-given}
 use Rattle.model.specs.Totals.{no_totals, added}
 use Rattle.model.specs.Board.{at_next_phase, report_counted, running_outcome}
@@ -17,7 +17,9 @@ use Rattle.board.proofs.running_tick.Goals as goal
 
 -- N and C are at least 1
 pub overflow_sub-last : goal.overflow_sub-last
-overflow_sub-last c = omega (arith, averaged-pos c.args.state.registers, c.averaged_spectra-spectra.ensures)
+overflow_sub-last c =
+    let r = c.args.state.registers in
+    omega (arith, averaged-pos r, period-pos r, c.averaged_spectra-spectra.ensures, c.period_ticks-period.ensures)
 
 pub next_phase-requires-clause-phase_lt_period : goal.next_phase-requires-clause-phase_lt_period
 next_phase-requires-clause-phase_lt_period c =
@@ -36,9 +38,11 @@ moves s period phase next is =
 pub returns-then-last-phase : goal.returns-then-last-phase
 unfolding running_outcome
 returns-then-last-phase c =
-    let s = c.args.state in
-    let late : ltb s.phase (averaged_spectra s.registers - 1) ≡ false = le-ltb s.phase (averaged_spectra s.registers - 1) (omega (arith, c.averaged_spectra-spectra.ensures)) in
-    let past-last : eqb s.phase (averaged_spectra s.registers - 1) ≡ false = ne_eqb s.phase (averaged_spectra s.registers - 1) (λ e. omega (arith, c.averaged_spectra-spectra.ensures)) in
+    let a = c.args in
+    let s = a.state in
+    let inside = phase-in s a.totals.now a.powers.now a.out.now c.requires in
+    let late : ltb s.phase (averaged_spectra s.registers - 1) ≡ false = le-ltb s.phase (averaged_spectra s.registers - 1) (omega (arith, inside, c.period_ticks-period.ensures, c.averaged_spectra-spectra.ensures)) in
+    let past-last : eqb s.phase (averaged_spectra s.registers - 1) ≡ false = ne_eqb s.phase (averaged_spectra s.registers - 1) (λ e. omega (arith, inside, c.period_ticks-period.ensures, c.averaged_spectra-spectra.ensures)) in
     rw (late, past-last, ← moves s _ _ c.next_phase.ensures c.period_ticks-period.ensures)
 
 -- nothing is refused, since the lists have their lengths

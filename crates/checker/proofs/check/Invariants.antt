@@ -3,8 +3,8 @@ use Rattle.std.proofs.Common.{◌≡◌, ◌-◌, length}
 use Rattle.checker.specs.Check.{check_from, commands_checked}
 use Rattle.checker.proofs.check.Given as goal
 
-abbrev pub invariant-loop-later : goal.invariant-loop-later
-invariant-loop-later l = check_from l.log l.cursor.at l.cursor.standing ≡ commands_checked l.log
+abbrev pub invariant-loop-entry : goal.invariant-loop-entry
+invariant-loop-entry l = check_from l.log l.at l.standing ≡ commands_checked l.log
 
-abbrev pub decreases-loop-later : goal.decreases-loop-later
-decreases-loop-later l = length l.log - l.cursor.at
+abbrev pub decreases-loop-entry : goal.decreases-loop-entry
+decreases-loop-entry l = length l.log - l.at

@@ -40,22 +40,22 @@ try_older-requires-clause-last_bound c =
     let s = c.args.self.now in
     (fine s.index.now s.bonus s.limit s.start s.start_in_bounds c.requires.limit_nonzero c.loop-turn.turn c.loop-turn.g c.loop-turn.invariant).inside
 
-pub try_newer-g-requires-clause-first_le_last : goal.try_newer-g-requires-clause-first_le_last
-try_newer-g-requires-clause-first_le_last c =
+pub try_newer-requires-clause-first_le_last : goal.try_newer-requires-clause-first_le_last
+try_newer-requires-clause-first_le_last c =
     let s = c.args.self.now in
-    let f = tried s.index.now s.bonus s.limit s.start s.start_in_bounds c.requires.limit_nonzero c.loop-turn.turn c.loop-turn.g c.loop-turn.invariant c.try_older.result c.try_older.ensures in
+    let f = tried s.index.now s.bonus s.limit s.start s.start_in_bounds c.requires.limit_nonzero c.loop-turn.turn c.loop-turn.g c.loop-turn.invariant c.try_older.new.g c.try_older.ensures in
     omega (arith, f.begins, f.ends)
 
-pub try_newer-g-requires-clause-last_bound : goal.try_newer-g-requires-clause-last_bound
-try_newer-g-requires-clause-last_bound c =
+pub try_newer-requires-clause-last_bound : goal.try_newer-requires-clause-last_bound
+try_newer-requires-clause-last_bound c =
     let s = c.args.self.now in
-    (tried s.index.now s.bonus s.limit s.start s.start_in_bounds c.requires.limit_nonzero c.loop-turn.turn c.loop-turn.g c.loop-turn.invariant c.try_older.result c.try_older.ensures).inside
+    (tried s.index.now s.bonus s.limit s.start s.start_in_bounds c.requires.limit_nonzero c.loop-turn.turn c.loop-turn.g c.loop-turn.invariant c.try_older.new.g c.try_older.ensures).inside
 
 pub loop-turn-preserved : goal.loop-turn-preserved
 loop-turn-preserved c =
     let s = c.args.self.now in
     let l = c.loop-turn in
-    c.try_newer-g.ensures
+    c.try_newer.ensures
     ∙ ap (try_newer s.index.now s.bonus s.limit s.start) (c.try_older.ensures ∙ ap (try_older s.index.now s.bonus s.limit s.start) l.invariant)
     ∙ sym (grown-next s.index.now s.bonus s.limit s.start l.turn)
 

@@ -18,7 +18,3 @@ returns-in-Some c = search rules
 pub returns-in_default : goal.returns-in_default
 unfolding try_older
 returns-in_default c = search rules
-
-pub returns-in_default-2 : goal.returns-in_default-2
-unfolding try_older
-returns-in_default-2 c = search rules
